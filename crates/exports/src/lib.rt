@@ -1,0 +1,2 @@
+// The C names under which a host written in Rust or C calls the libraries: one thin call each.
+pub mod numbers_calls;

@@ -1,0 +1,2 @@
+-- What the proofs of several modules use.
+pub mod Encode

@@ -1,0 +1,17 @@
+-- `numbers::logarithm::log_twice` meets its contract. Assumes nothing.
+use mathlib.Core.Path.{_≡_, ap}
+use lib.Ieee.{Float, binary64, mul, ofBits}
+use borrow.Author.Needs.{needs}
+use Rattle.numbers.specs.Arithmetic.{two}
+use Rattle.numbers.proofs.logarithm.log_twice.Statement.{statement}
+use Rattle.numbers.proofs.logarithm.log_twice.Tie as tie
+
+log-series-requires : tie.Need-log-series-requires
+log-series-requires c κs = search needs
+
+returns : tie.Need-returns
+unfolding ofBits
+returns c = ap (λ (q : Float). mul binary64 two (mul binary64 (c .before .args .s) q)) (c .log-series .ensures)
+
+pub log-twice-spec : {M : Type 1} → statement M
+log-twice-spec = tie.close (tie.spec log-series-requires returns)

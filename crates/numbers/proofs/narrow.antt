@@ -1,0 +1,2 @@
+-- What the proofs of `dropped` and `narrow_bits` use.
+mod Drop

@@ -1,0 +1,2 @@
+-- What `split`'s proof uses.
+mod Value

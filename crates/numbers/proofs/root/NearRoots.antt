@@ -1,0 +1,136 @@
+-- The whole number nearest to a root. Assumes nothing.
+use mathlib.Core.Path.{_≡_, refl, sym, ap, _∙_, subst}
+use mathlib.Core.Logic.{_⊎_, inl, inr}
+use Prim.Native.Nat.{ℕ, zero, suc, _+_, _-_, _*_, _/_, _%_, _^_, _≤_, _<_}
+use native.Mathlib.Nat.{le-trans, le-of-eq, le-refl, le-antisymm, lt-of-lt-of-le, lt-of-le-of-lt, lt-of-not-le, not-le-of-lt, mul-le-mul, add-le-add, div-add-mod', pow-succ', pow-suc, le-of-suc-le-suc, zero-add, mul-one}
+use native.Mathlib.Omega.{arith}
+use mathlib.Core.Bool.{Bool, true, false, not, cond}
+use lib.Dec.{T, leb, ltb, leb→le, nleb→lt, ltb→lt, nltb→le, lit<, lit≤}
+use lib.Pow.{pow-pos}
+use Rattle.numbers.specs.Root.{NearRoot, Squared, rootFrom, nearRoot}
+
+-- ---- a square by halves
+square-is : (c h l m : ℕ) → h * 134217728 + l ≡ c → m ≡ 2 * (h * l)
+    → (h * h + m / 134217728) * 18014398509481984 + (m % 134217728 * 134217728 + l * l) ≡ c * c
+square-is c h l m e f =
+    let g : (h * 134217728 + l) * (h * 134217728 + l) ≡ c * c = ap (λ (z : ℕ). z * z) e in
+    omega arith
+
+pub squared : (c : ℕ) → c ≤ 9007199254740992 → (c / 134217728 * (c % 134217728) ≤ 67108864 * 134217727) × (c % 134217728 * (c % 134217728) ≤ 134217727 * 134217727) × (c / 134217728 * (c / 134217728) ≤ 67108864 * 67108864)
+squared c k = (mul-le-mul (high c k) (lower c), mul-le-mul (lower c) (lower c), mul-le-mul (high c k) (high c k))
+  where
+    high : (x : ℕ) → x ≤ 9007199254740992 → x / 134217728 ≤ 67108864
+    high x a = omega arith
+
+    lower : (x : ℕ) → x % 134217728 ≤ 134217727
+    lower x = omega arith
+
+pub square-parts : (c : ℕ) → c ≤ 9007199254740992
+    → Squared c (c / 134217728 * (c / 134217728) + 2 * (c / 134217728 * (c % 134217728)) / 134217728) (2 * (c / 134217728 * (c % 134217728)) % 134217728 * 134217728 + c % 134217728 * (c % 134217728))
+square-parts c k =
+    let b = squared c k in
+    record {
+      is = square-is c (c / 134217728) (c % 134217728) (2 * (c / 134217728 * (c % 134217728))) (div-add-mod' c 134217728) refl;
+      low-lt = few (2 * (c / 134217728 * (c % 134217728))) (c % 134217728 * (c % 134217728)) (b .1);
+      top-le = top (c / 134217728 * (c % 134217728)) (c / 134217728 * (c / 134217728)) (b .0) (b .2);
+    }
+  where
+    few : (m q : ℕ) → q ≤ 134217727 * 134217727 → m % 134217728 * 134217728 + q < 36028797018963968
+    few m q a = omega arith
+
+    top : (p q : ℕ) → p ≤ 67108864 * 134217727 → q ≤ 67108864 * 67108864 → q + 2 * p / 134217728 ≤ 9007199254740992
+    top p q a d = omega arith
+
+-- ---- the root without its fraction
+twice : (s p : ℕ) → (s + 2 * p) * (s + 2 * p) ≡ (s + p + p) * (s + p + p)
+twice s p = omega arith
+
+pub rootFrom-is : (k s n : ℕ) → s * s ≤ n → n < (s + 2 ^ k) * (s + 2 ^ k) → (rootFrom k s n * rootFrom k s n ≤ n) × (n < (rootFrom k s n + 1) * (rootFrom k s n + 1))
+unfolding rootFrom
+rootFrom-is zero s n a b = (a, b)
+rootFrom-is (suc k) s n a b = go (λ u. rootFrom-is k u n) (leb ((s + 2 ^ k) * (s + 2 ^ k)) n) (leb→le ((s + 2 ^ k) * (s + 2 ^ k)) n) (nleb→lt ((s + 2 ^ k) * (s + 2 ^ k)) n)
+  where
+    go : ((u : ℕ) → u * u ≤ n → n < (u + 2 ^ k) * (u + 2 ^ k) → (rootFrom k u n * rootFrom k u n ≤ n) × (n < (rootFrom k u n + 1) * (rootFrom k u n + 1)))
+        → (t : Bool) → (T t → (s + 2 ^ k) * (s + 2 ^ k) ≤ n) → (T (not t) → n < (s + 2 ^ k) * (s + 2 ^ k))
+        → (rootFrom k (cond t (s + 2 ^ k) s) n * rootFrom k (cond t (s + 2 ^ k) s) n ≤ n) × (n < (rootFrom k (cond t (s + 2 ^ k) s) n + 1) * (rootFrom k (cond t (s + 2 ^ k) s) n + 1))
+    go ih true h g = ih (s + 2 ^ k) (h tt) (subst (λ (z : ℕ). n < z) (ap (λ (z : ℕ). (s + z) * (s + z)) (pow-succ' 2 k) ∙ twice s (2 ^ k)) b)
+    go ih false h g = ih s a (g tt)
+
+-- ---- the nearest whole number is one
+grow : (a b : ℕ) → a ≤ b → a * a + a ≤ b * b + b
+grow a b h = add-le-add (mul-le-mul h h) h
+
+-- c ≤ s and s * s + s < n
+no-less : (n c s : ℕ) → n ≤ c * c + c → s * s + s < n → c ≤ s → ⊥
+no-less n c s a b h = not-le-of-lt b (le-trans a (grow c s h))
+
+-- s < c: the c - 1 that it reaches
+pub no-more : (n c s : ℕ) → c * c < n + c → n ≤ s * s + s → s < c → ⊥
+no-more n zero s a b h = absurd (no s h)
+  where
+    no : (x : ℕ) → x < 0 → ⊥
+    no x k = omega arith
+no-more n (suc c) s a b h = not-le-of-lt (shrink n c a) (le-trans b (grow s c (le-of-suc-le-suc h)))
+  where
+    shrink : (m d : ℕ) → suc d * suc d < m + suc d → d * d + d < m
+    shrink m d k = omega arith
+
+one-of : (n c d : ℕ) → NearRoot n c → NearRoot n d → c ≤ d
+one-of n c d p q = le-of-suc-le-suc (lt-of-not-le (λ (h : suc d ≤ c). no-more n c d (p .above) (q .below) h))
+
+pub near-unique : (n c d : ℕ) → NearRoot n c → NearRoot n d → c ≡ d
+near-unique n c d p q = le-antisymm (one-of n c d p q) (one-of n d c q p)
+
+pub nearRoot-is : (n : ℕ) → 0 < n → n < 2 ^ 106 → NearRoot n (nearRoot n)
+unfolding nearRoot
+nearRoot-is n N h = go (ltb (s * s + s) n) (ltb→lt (s * s + s) n) (nltb→le (s * s + s) n)
+  where
+    s : ℕ
+    s = rootFrom 53 0 n
+
+    is : (s * s ≤ n) × (n < (s + 1) * (s + 1))
+    is = rootFrom-is 53 0 n Prim.Native.Nat.zero-le h
+
+    up : (m t : ℕ) → t * t + t < m → m < (t + 1) * (t + 1) → NearRoot m (suc t)
+    up m t a b = record { above = omega arith; below = omega arith }
+
+    down : (m t : ℕ) → 0 < m → m ≤ t * t + t → t * t ≤ m → NearRoot m t
+    down m zero p a b = record { above = p'; below = a }
+      where
+        p' : 0 * 0 < m + 0
+        p' = omega arith
+    down m (suc t) p a b = record { above = omega arith; below = a }
+
+    go : (b : Bool) → (T b → s * s + s < n) → (T (not b) → n ≤ s * s + s) → NearRoot n (cond b (suc s) s)
+    go true a b = up n s (a tt) (is .1)
+    go false a b = down n s N (b tt) (is .0)
+
+-- ---- the interval
+pub narrowed-down : (n a b : ℕ) → a < b → b - a ≤ 1 → a * a + a < n → n ≤ b * b + b → NearRoot n b
+narrowed-down n a b l w p q = subst (λ (x : ℕ). NearRoot n x) (next a b l w) (record { above = up n a p; below = subst (λ (x : ℕ). n ≤ x * x + x) (sym (next a b l w)) q })
+  where
+    next : (x y : ℕ) → x < y → y - x ≤ 1 → suc x ≡ y
+    next x y h k = omega arith
+
+    up : (m x : ℕ) → x * x + x < m → suc x * suc x < m + suc x
+    up m x h = omega arith
+
+-- ---- the candidate and its neighbours. q is c * c
+module _ (q t l hi lo : ℕ) (is : t * 18014398509481984 + l ≡ q) (near : t ≤ hi + 4) where
+  abbrev pub L : ℕ
+  L = (hi + 4 - t) * 18014398509481984 + lo
+
+  abbrev pub R : ℕ
+  R = 72057594037927936 + l
+
+  abbrev pub N : ℕ
+  N = hi * 18014398509481984 + lo
+
+  pub itself : (c : ℕ) → q ≡ c * c → L ≤ R + c → R < L + c → NearRoot N c
+  itself c e h k = record { above = omega arith; below = omega arith }
+
+  pub under : (d : ℕ) → q ≡ suc d * suc d → L + suc d ≤ R → R + 2 < L + 3 * suc d → NearRoot N d
+  under d e h k = record { above = omega arith; below = omega arith }
+
+  pub over : (c : ℕ) → q ≡ c * c → R + c < L → L ≤ R + 3 * c + 2 → NearRoot N (c + 1)
+  over c e h k = record { above = omega arith; below = omega arith }

@@ -1,0 +1,2 @@
+-- What the proofs of rounding, floor and ceiling share.
+pub mod Fractions

@@ -1,0 +1,308 @@
+-- Whole numbers near a value. Assumes nothing.
+use mathlib.Core.Path.{_≡_, refl, sym, ap, _∙_, subst}
+use mathlib.Core.Logic.{_⊎_, inl, inr}
+use Prim.Native.Nat.{ℕ, zero, suc, _+_, _-_, _*_, _/_, _%_, _^_, _≤_, _<_, compare}
+use native.Mathlib.Nat.{le-trans, le-of-eq, lt-of-lt-of-le, lt-of-le-of-lt, mul-one, mul-comm, mul-assoc, mul-right-comm, mul-le-mul, mul-le-mul-right, mul-pos, zero-lt-suc, eq-of-mul-eq-mul-right, div-lt-iff-lt-mul, mul-div-cancel, div-add-mod', div-le-self, div-eq-of-lt, zero-mul, zero-mod, zero-div, mod-lt, mul-mod-left}
+use native.Mathlib.Omega.{arith}
+use mathlib.Core.Bool.{Bool, true, false, not, cond}
+use lib.Dec.{T, ltb, eqb, eqb→eq, eqb-refl, not-T, lit<, lit≤, eqb·suc-zero}
+use lib.Pow.{pow-pos, pow-mono, pow-add, shl-lt}
+use lib.Ieee.{Float, nan, inf, fin, Format, binary32, binary64, prec, emax, low, up, down, size, nearest, odd, units, round, fits, neg}
+use lib.Ieee.Fits.{round-is, round-fits, down-pos}
+use lib.Ieee.Bits.{is-true, is-false}
+use lib.Ieee.Exact.{HasValue, round-exact}
+use lib.Ieee.Nearest.{closest, div-same}
+use Rattle.numbers.specs.Parts.{Parted}
+use Rattle.numbers.specs.Whole.{halfUp, upward, wholeNearest, wholeBelow, wholeAbove}
+use Rattle.numbers.proofs.Encode.{same-value}
+
+-- ---- the sign goes through a rounding
+neg-odd : (d q k l : ℕ) → neg (odd d false q k l) ≡ odd d true q k l
+unfolding odd neg
+neg-odd d zero k l = refl
+neg-odd d (suc q) k l = refl
+
+neg-units : (f : Format) (q k : ℕ) → neg (units f false q k) ≡ units f true q k
+unfolding units neg
+neg-units f q k = go (ltb (q * 2 ^ k) (2 ^ (low f + suc (emax f))))
+  where
+    go : (b : Bool) → neg (cond b (odd (suc (prec f)) false q k (low f)) (inf false)) ≡ cond b (odd (suc (prec f)) true q k (low f)) (inf true)
+    go true = neg-odd (suc (prec f)) q k (low f)
+    go false = refl
+
+pub neg-round : (f : Format) (num den : ℕ) → neg (round f false num den) ≡ round f true num den
+neg-round f num den =
+    let k = size (num * 2 ^ low f / den) - prec f in
+    ap neg (round-is f false num den) ∙ neg-units f (closest (num * 2 ^ low f) (den * 2 ^ k)) k ∙ sym (round-is f true num den)
+
+-- ---- a value of the format rounds to itself
+pub round-own : (x : Float) (s : Bool) (sig exp num den : ℕ) → T (fits binary64 x) → Parted x s sig exp → 0 < den → num * 2 ^ 1074 ≡ sig * 2 ^ exp * den → round binary64 s num den ≡ x
+round-own x s sig exp num den F P D e =
+    same-value binary64 (round binary64 s num den) x s (sig * 2 ^ exp) (round-fits binary64 s num den) F
+    (rescaled (round binary64 s num den) (round-exact binary64 s num den sig exp D (P .sig-lt) under e))
+    (P .value)
+  where
+    under : sig * 2 ^ exp < 2 ^ 2098
+    under = lt-of-lt-of-le (shl-lt 53 exp (P .sig-lt)) (pow-mono (top exp (P .exp-le)))
+      where
+        top : (k : ℕ) → k ≤ 2045 → 53 + k ≤ 2098
+        top k h = omega arith
+
+    rescaled : (v : Float) → HasValue v s num den → HasValue v s (sig * 2 ^ exp) (2 ^ 1074)
+    rescaled nan h = absurd h
+    rescaled (inf t) h = absurd h
+    rescaled (fin t m g) h = (
+      h .0,
+      eq-of-mul-eq-mul-right den D (m * up g * 2 ^ 1074) (sig * 2 ^ exp * down g)
+          (mul-right-comm (m * up g) (2 ^ 1074) den ∙ ap (λ (z : ℕ). z * 2 ^ 1074) (h .1) ∙ mul-right-comm num (down g) (2 ^ 1074) ∙ ap (λ (z : ℕ). z * down g) e ∙ mul-right-comm (sig * 2 ^ exp) den (down g)),
+    )
+
+-- ---- equal fractions
+halfUp-same : (X D s c : ℕ) → 0 < D → 0 < c → X * c ≡ s * D → halfUp X D ≡ halfUp s c
+halfUp-same X D s c P Q e = div-same (2 * X + D) (2 * D) (2 * s + c) (2 * c) (mul-pos (zero-lt-suc 1) P) (mul-pos (zero-lt-suc 1) Q) (omega arith)
+
+rest-same : (X D s c q r t : ℕ) → X * c ≡ s * D → q * D + r ≡ X → q * c + t ≡ s → r * c ≡ t * D
+rest-same X D s c q r t e a b =
+    let x : (q * D + r) * c ≡ X * c = ap (λ (z : ℕ). z * c) a in
+    let y : (q * c + t) * D ≡ s * D = ap (λ (z : ℕ). z * D) b in
+    omega arith
+
+none : (r c t : ℕ) → r * c ≡ t → t ≡ 0 → 0 < c → r ≡ 0
+none zero c t e z C = refl
+none (suc r) c t e z C = absurd (no (suc r * c) (mul-pos (zero-lt-suc r) C) (e ∙ z))
+  where
+    no : (k : ℕ) → 0 < k → k ≡ 0 → ⊥
+    no k h g = omega arith
+
+both-or-neither : (r t : ℕ) → (r ≡ 0 → t ≡ 0) → (t ≡ 0 → r ≡ 0) → eqb r 0 ≡ eqb t 0
+both-or-neither zero t f g = ap (λ (z : ℕ). eqb z 0) (sym (f refl))
+both-or-neither (suc r) zero f g = ap (λ (z : ℕ). eqb z 0) (g refl)
+both-or-neither (suc r) (suc t) f g = eqb·suc-zero r ∙ sym (eqb·suc-zero t)
+
+upward-same : (X D s c : ℕ) → 0 < D → 0 < c → X * c ≡ s * D → upward X D ≡ upward s c
+upward-same X D s c P Q e =
+    let q : X / D ≡ s / c = div-same X D s c P Q e in
+    let r : X % D * c ≡ s % c * D = rest-same X D s c (s / c) (X % D) (s % c) e (ap (λ (z : ℕ). z * D + X % D) (sym q) ∙ div-add-mod' X D) (div-add-mod' s c) in
+    let z : eqb (X % D) 0 ≡ eqb (s % c) 0 =
+    both-or-neither (X % D) (s % c)
+    (λ h. none (s % c) D (X % D * c) (sym r) (ap (λ (w : ℕ). w * c) h ∙ zero-mul c) P)
+    (λ h. none (X % D) c (s % c * D) r (ap (λ (w : ℕ). w * D) h ∙ zero-mul D) Q) in
+    ap (λ (w : ℕ). cond (eqb (X % D) 0) w (suc w)) q ∙ ap (λ (b : Bool). cond b (s / c) (suc (s / c))) z
+
+-- ---- a value below 2 ^ 53 in units, with a fraction of g digits
+apart : (e : ℕ) → e < 1074 → 1074 - e + e ≡ 1074
+apart e h = omega arith
+
+cross : (X D sig exp : ℕ) → exp < 1074 → X * 2 ^ 1074 ≡ sig * 2 ^ exp * D → X * 2 ^ (1074 - exp) ≡ sig * D
+cross X D sig exp h e =
+    eq-of-mul-eq-mul-right (2 ^ exp) (pow-pos exp) (X * 2 ^ (1074 - exp)) (sig * D)
+    (mul-assoc X (2 ^ (1074 - exp)) (2 ^ exp) ∙ ap (λ (z : ℕ). X * z) (sym (pow-add 2 (1074 - exp) exp) ∙ ap (λ (z : ℕ). 2 ^ z) (apart exp h)) ∙ e ∙ mul-right-comm sig (2 ^ exp) D)
+
+module _ (x : Float) (s : Bool) (sig exp : ℕ) (P : HasValue x s (sig * 2 ^ exp) (2 ^ 1074)) (h : exp < 1074) where
+  abbrev pub C : ℕ
+  C = 2 ^ (1074 - exp)
+
+  pub nearest-small : round binary64 s (halfUp sig C) 1 ≡ wholeNearest x
+  unfolding wholeNearest
+  nearest-small = go x P
+    where
+      go : (y : Float) → HasValue y s (sig * 2 ^ exp) (2 ^ 1074) → round binary64 s (halfUp sig C) 1 ≡ wholeNearest y
+      go nan k = absurd k
+      go (inf t) k = absurd k
+      go (fin t m e) k =
+          ap (λ (b : Bool). round binary64 b (halfUp sig C) 1) (sym (k .0))
+          ∙ ap (λ (n : ℕ). round binary64 t n 1) (sym (halfUp-same (m * up e) (down e) sig C (down-pos e) (pow-pos (1074 - exp)) (cross (m * up e) (down e) sig exp h (k .1))))
+
+  pub below-small : round binary64 s (cond s (upward sig C) (sig / C)) 1 ≡ wholeBelow x
+  unfolding wholeBelow
+  below-small = go x P
+    where
+      go : (y : Float) → HasValue y s (sig * 2 ^ exp) (2 ^ 1074) → round binary64 s (cond s (upward sig C) (sig / C)) 1 ≡ wholeBelow y
+      go nan k = absurd k
+      go (inf t) k = absurd k
+      go (fin t m e) k =
+          let e' = cross (m * up e) (down e) sig exp h (k .1) in
+          ap (λ (b : Bool). round binary64 b (cond b (upward sig C) (sig / C)) 1) (sym (k .0))
+          ∙ ap (λ (n : ℕ). round binary64 t (cond t n (sig / C)) 1) (sym (upward-same (m * up e) (down e) sig C (down-pos e) (pow-pos (1074 - exp)) e'))
+          ∙ ap (λ (n : ℕ). round binary64 t (cond t (upward (m * up e) (down e)) n) 1) (sym (div-same (m * up e) (down e) sig C (down-pos e) (pow-pos (1074 - exp)) e'))
+
+  pub above-small : round binary64 s (cond s (sig / C) (upward sig C)) 1 ≡ wholeAbove x
+  unfolding wholeAbove
+  above-small = go x P
+    where
+      go : (y : Float) → HasValue y s (sig * 2 ^ exp) (2 ^ 1074) → round binary64 s (cond s (sig / C) (upward sig C)) 1 ≡ wholeAbove y
+      go nan k = absurd k
+      go (inf t) k = absurd k
+      go (fin t m e) k =
+          let e' = cross (m * up e) (down e) sig exp h (k .1) in
+          ap (λ (b : Bool). round binary64 b (cond b (sig / C) (upward sig C)) 1) (sym (k .0))
+          ∙ ap (λ (n : ℕ). round binary64 t (cond t (sig / C) n) 1) (sym (upward-same (m * up e) (down e) sig C (down-pos e) (pow-pos (1074 - exp)) e'))
+          ∙ ap (λ (n : ℕ). round binary64 t (cond t n (upward (m * up e) (down e))) 1) (sym (div-same (m * up e) (down e) sig C (down-pos e) (pow-pos (1074 - exp)) e'))
+
+-- ---- a whole number
+halfUp-one : (W D : ℕ) → 0 < D → halfUp (W * D) D ≡ W
+halfUp-one W D P = halfUp-same (W * D) D W 1 P (zero-lt-suc 0) (mul-one (W * D)) ∙ odd-half W
+  where
+    odd-half : (w : ℕ) → (2 * w + 1) / 2 ≡ w
+    odd-half w = omega arith
+
+upward-one : (W D : ℕ) → 0 < D → upward (W * D) D ≡ W
+upward-one W D P = upward-same (W * D) D W 1 P (zero-lt-suc 0) (mul-one (W * D)) ∙ ap (λ (r : ℕ). cond (eqb r 0) (W / 1) (suc (W / 1))) (native.Mathlib.Nat.mod-one W) ∙ native.Mathlib.Nat.div-one W
+
+whole-cross : (X D sig exp : ℕ) → 1074 ≤ exp → X * 2 ^ 1074 ≡ sig * 2 ^ exp * D → X ≡ sig * 2 ^ (exp - 1074) * D
+whole-cross X D sig exp h e =
+    eq-of-mul-eq-mul-right (2 ^ 1074) (pow-pos 1074) X (sig * 2 ^ (exp - 1074) * D)
+    (e ∙ ap (λ (z : ℕ). sig * z * D) (ap (λ (z : ℕ). 2 ^ z) (sym (back exp h)) ∙ pow-add 2 (exp - 1074) 1074) ∙ ap (λ (z : ℕ). z * D) (sym (mul-assoc sig (2 ^ (exp - 1074)) (2 ^ 1074))) ∙ mul-right-comm (sig * 2 ^ (exp - 1074)) (2 ^ 1074) D)
+  where
+    back : (k : ℕ) → 1074 ≤ k → k - 1074 + 1074 ≡ k
+    back k g = omega arith
+
+both-same : (b : Bool) (n : ℕ) → cond b n n ≡ n
+both-same true n = refl
+both-same false n = refl
+
+module _ (s : Bool) (sig exp : ℕ) (h : 1074 ≤ exp) where
+  abbrev W : ℕ
+  W = sig * 2 ^ (exp - 1074)
+
+  scaled : W * 2 ^ 1074 ≡ sig * 2 ^ exp * 1
+  scaled =
+      mul-assoc sig (2 ^ (exp - 1074)) (2 ^ 1074) ∙ ap (λ (z : ℕ). sig * z) (sym (pow-add 2 (exp - 1074) 1074) ∙ ap (λ (z : ℕ). 2 ^ z) (back exp h)) ∙ sym (mul-one (sig * 2 ^ exp))
+    where
+      back : (k : ℕ) → 1074 ≤ k → k - 1074 + 1074 ≡ k
+      back k g = omega arith
+
+  pub nearest-large : (x : Float) → T (fits binary64 x) → Parted x s sig exp → x ≡ wholeNearest x
+  unfolding wholeNearest
+  nearest-large nan F P = refl
+  nearest-large (inf t) F P = refl
+  nearest-large (fin t m e) F P =
+      sym (round-own (fin t m e) s sig exp W 1 F P (zero-lt-suc 0) scaled)
+      ∙ ap (λ (b : Bool). round binary64 b W 1) (sym (P .value .0))
+      ∙ ap (λ (n : ℕ). round binary64 t n 1) (sym (ap (λ (n : ℕ). halfUp n (down e)) (whole-cross (m * up e) (down e) sig exp h (P .value .1)) ∙ halfUp-one W (down e) (down-pos e)))
+
+  pub below-large : (x : Float) → T (fits binary64 x) → Parted x s sig exp → x ≡ wholeBelow x
+  unfolding wholeBelow
+  below-large nan F P = refl
+  below-large (inf t) F P = refl
+  below-large (fin t m e) F P =
+      let w = whole-cross (m * up e) (down e) sig exp h (P .value .1) in
+      sym (round-own (fin t m e) s sig exp W 1 F P (zero-lt-suc 0) scaled)
+      ∙ ap (λ (b : Bool). round binary64 b W 1) (sym (P .value .0))
+      ∙ ap (λ (n : ℕ). round binary64 t n 1)
+      (sym (ap (λ (n : ℕ). cond t (upward n (down e)) (n / down e)) w ∙ ap (λ (n : ℕ). cond t n (W * down e / down e)) (upward-one W (down e) (down-pos e)) ∙ ap (λ (n : ℕ). cond t W n) (mul-div-cancel W (down-pos e)) ∙ both-same t W))
+
+  pub above-large : (x : Float) → T (fits binary64 x) → Parted x s sig exp → x ≡ wholeAbove x
+  unfolding wholeAbove
+  above-large nan F P = refl
+  above-large (inf t) F P = refl
+  above-large (fin t m e) F P =
+      let w = whole-cross (m * up e) (down e) sig exp h (P .value .1) in
+      sym (round-own (fin t m e) s sig exp W 1 F P (zero-lt-suc 0) scaled)
+      ∙ ap (λ (b : Bool). round binary64 b W 1) (sym (P .value .0))
+      ∙ ap (λ (n : ℕ). round binary64 t n 1)
+      (sym (ap (λ (n : ℕ). cond t (n / down e) (upward n (down e))) w ∙ ap (λ (n : ℕ). cond t (W * down e / down e) n) (upward-one W (down e) (down-pos e)) ∙ ap (λ (n : ℕ). cond t n W) (mul-div-cancel W (down-pos e)) ∙ both-same t W))
+
+-- ---- not finite
+pub nearest-other : (x : Float) → lib.Ieee.Scale.finite x ≡ false → x ≡ wholeNearest x
+unfolding wholeNearest
+nearest-other nan h = refl
+nearest-other (inf s) h = refl
+nearest-other (fin s m e) h = absurd (mathlib.Core.Bool.true≢false h)
+
+pub below-other : (x : Float) → lib.Ieee.Scale.finite x ≡ false → x ≡ wholeBelow x
+unfolding wholeBelow
+below-other nan h = refl
+below-other (inf s) h = refl
+below-other (fin s m e) h = absurd (mathlib.Core.Bool.true≢false h)
+
+pub above-other : (x : Float) → lib.Ieee.Scale.finite x ≡ false → x ≡ wholeAbove x
+unfolding wholeAbove
+above-other nan h = refl
+above-other (inf s) h = refl
+above-other (fin s m e) h = absurd (mathlib.Core.Bool.true≢false h)
+
+-- ---- the whole numbers are small
+more : (s c : ℕ) → 0 < c → 2 * s + c < (s + 2) * (2 * c)
+more s c h =
+    let g : s ≤ s * c = native.Mathlib.Nat.le-mul-of-pos-right s h in
+    omega arith
+
+pub halfUp-le : (s c : ℕ) → 0 < c → s < 9007199254740992 → halfUp s c ≤ 9007199254740992
+halfUp-le s c h l = cap (halfUp s c) s (div-lt-iff-lt-mul (mul-pos (zero-lt-suc 1) h) .1 (more s c h)) l
+  where
+    cap : (k n : ℕ) → k < n + 2 → n < 9007199254740992 → k ≤ 9007199254740992
+    cap k n a b = omega arith
+
+pub cut-le : (s c : ℕ) → s < 9007199254740992 → s / c ≤ 9007199254740992
+cut-le s c l = le-trans (div-le-self s c) (native.Mathlib.Nat.le-of-lt l)
+
+pub upward-le : (s c : ℕ) → s < 9007199254740992 → upward s c ≤ 9007199254740992
+upward-le s c l = go (eqb (s % c) 0)
+  where
+    go : (b : Bool) → cond b (s / c) (suc (s / c)) ≤ 9007199254740992
+    go true = cut-le s c l
+    go false = le-trans (Prim.Native.Nat.suc-le-suc (div-le-self s c)) l
+
+-- ---- as the code has them
+pub half-none : (s g : ℕ) → s < 9007199254740992 → 63 < g → 0 ≡ halfUp s (2 ^ g)
+half-none s g h l = sym (div-eq-of-lt (small s (2 ^ g) h (pow-mono (native.Mathlib.Nat.le-of-lt l))))
+  where
+    small : (a c : ℕ) → a < 9007199254740992 → 9223372036854775808 ≤ c → 2 * a + c < 2 * c
+    small a c x y = omega arith
+
+half-shape : (s h : ℕ) → (s + h) * (2 * (2 * h)) ≡ (2 * s + 2 * h) * (2 * h)
+half-shape s h = omega arith
+
+pub half-shift : (s g : ℕ) → 0 < g → g ≤ 63 → (s + (1 * 2 ^ (g - 1)) % 2 ^ 64) / 2 ^ g ≡ halfUp s (2 ^ g)
+half-shift s g h l =
+    let p = 2 ^ (g - 1) in
+    let t : 2 ^ g ≡ 2 * p = ap (λ (x : ℕ). 2 ^ x) (back g h) ∙ native.Mathlib.Nat.pow-succ' 2 (g - 1) in
+    let one : (1 * p) % 2 ^ 64 ≡ p = ap (λ (x : ℕ). x % 2 ^ 64) (native.Mathlib.Nat.one-mul p) ∙ native.Mathlib.Nat.mod-eq-of-lt (lib.Pow.pow-lt (less g l)) in
+    ap (λ (x : ℕ). (s + x) / 2 ^ g) one
+    ∙ div-same (s + p) (2 ^ g) (2 * s + 2 ^ g) (2 * 2 ^ g) (pow-pos g) (mul-pos (zero-lt-suc 1) (pow-pos g))
+    (subst (λ (x : ℕ). (s + p) * (2 * x) ≡ (2 * s + x) * x) (sym t) (half-shape s p))
+  where
+    back : (k : ℕ) → 0 < k → k ≡ suc (k - 1)
+    back k a = omega arith
+
+    less : (k : ℕ) → k ≤ 63 → k - 1 < 64
+    less k a = omega arith
+
+pub half-fits : (s g : ℕ) → s < 9007199254740992 → g ≤ 63 → s + (1 * 2 ^ (g - 1)) % 2 ^ 64 < 18446744073709551616
+half-fits s g h l = sum s ((1 * 2 ^ (g - 1)) % 2 ^ 64) h (lt-of-le-of-lt (native.Mathlib.Nat.mod-le (1 * 2 ^ (g - 1)) (2 ^ 64)) (lt-of-le-of-lt (le-of-eq (native.Mathlib.Nat.one-mul (2 ^ (g - 1)))) (lib.Pow.pow-lt (less g l))))
+  where
+    less : (k : ℕ) → k ≤ 63 → k - 1 < 63
+    less k a = omega arith
+
+    sum : (a b : ℕ) → a < 9007199254740992 → b < 9223372036854775808 → a + b < 18446744073709551616
+    sum a b x y = omega arith
+
+pub cut-none : (s g : ℕ) → s < 9007199254740992 → 63 < g → 0 ≡ s / 2 ^ g
+cut-none s g h l = sym (div-eq-of-lt (lt-of-lt-of-le h (le-trans (lit≤ tt) (pow-mono (native.Mathlib.Nat.le-of-lt l)))))
+
+pub upward-zero : (c : ℕ) → 0 ≡ upward 0 c
+upward-zero c = sym (ap (λ (r : ℕ). cond (eqb r 0) (0 / c) (suc (0 / c))) (zero-mod c) ∙ zero-div c)
+
+up-at : (s c q r : ℕ) → q * c + r ≡ s → r < c → 0 < s → suc ((s - 1) / c) ≡ cond (eqb r 0) q (suc q)
+up-at s c zero zero e l h = absurd (no s (sym e ∙ ap (λ (z : ℕ). z + 0) (zero-mul c)) h)
+  where
+    no : (k : ℕ) → k ≡ 0 + 0 → 0 < k → ⊥
+    no k a b = omega arith
+up-at s c (suc q) zero e l h = ap suc (ap (λ (x : ℕ). x / c) (one s c q e l) ∙ lib.Arith.digits-div q (pred c l))
+  where
+    one : (a d k : ℕ) → suc k * d + 0 ≡ a → 0 < d → a - 1 ≡ k * d + (d - 1)
+    one a d k x y = omega arith
+
+    pred : (d : ℕ) → 0 < d → d - 1 < d
+    pred d y = omega arith
+up-at s c q (suc r) e l h = ap suc (ap (λ (x : ℕ). x / c) (one s (q * c) r e) ∙ lib.Arith.digits-div q (less r c l)) ∙ ap (λ (b : Bool). cond b q (suc q)) (sym (eqb·suc-zero r))
+  where
+    one : (a d k : ℕ) → d + suc k ≡ a → a - 1 ≡ d + k
+    one a d k x = omega arith
+
+    less : (k d : ℕ) → suc k < d → k < d
+    less k d x = omega arith
+
+pub upward-pred : (s c : ℕ) → 0 < c → 0 < s → (s - 1) / c + 1 ≡ upward s c
+upward-pred s c C h = native.Mathlib.Numerals.add-one ((s - 1) / c) ∙ up-at s c (s / c) (s % c) (div-add-mod' s c) (mod-lt s C) h

@@ -1,0 +1,66 @@
+-- `numbers::whole::round` meets its contract. Assumes nothing.
+use mathlib.Core.Path.{_≡_, sym, ap, _∙_, subst}
+use Prim.Native.Nat.{ℕ, _-_, _^_, _≤_, _<_}
+use lib.Dec.{T}
+use lib.Pow.{pow-pos}
+use lib.Ieee.{binary64, round, fits}
+use borrow.Author.Needs.{needs}
+use Rattle.numbers.proofs.whole.Fractions.{nearest-small, nearest-large, nearest-other, halfUp-le}
+use Rattle.numbers.proofs.whole.round.Statement.{statement}
+use Rattle.numbers.proofs.whole.round.Tie as tie
+use Rattle.numbers.proofs.whole.round.Reads as reads
+use Rattle.numbers.proofs.whole.round.Lts as lts
+
+held : (c : tie.Start) → T (fits binary64 (c .args .x))
+held c = subst T (sym (c .good .0 .1)) tt
+
+is-finite-requires : tie.Need-is-finite-requires
+is-finite-requires c κs = search needs
+
+split-requires : tie.Need-split-requires
+split-requires c κs = subst T (sym (sym (c .before .is-finite .ensures) ∙ c .if1 .taken)) tt
+
+sub-half-up : tie.Need-sub-half-up
+sub-half-up c = search needs
+
+half-up-requires : tie.Need-half-up-requires
+half-up-requires c κs = search needs
+
+signed-requires : tie.Need-signed-requires
+signed-requires c κs =
+    let p = c .before .before .before .before .split in
+    let g = 1074 - p .result .exp in
+    subst (λ (k : ℕ). k ≤ 9007199254740992) (sym (c .half-up .ensures)) (halfUp-le (p .result .sig) (2 ^ g) (pow-pos g) (p .ensures .sig-lt))
+
+returns : tie.Need-returns
+returns c =
+    let b = c .before .before .before .before .before in
+    let p = b .split in
+    c .signed .ensures
+    ∙ ap (λ (k : ℕ). round binary64 (p .result .minus) k 1) (c .before .half-up .ensures)
+    ∙ nearest-small (b .before .before .before .args .x) (p .result .minus) (p .result .sig) (p .result .exp) (p .ensures .value) (c .before .before .before .if2 .taken)
+
+returns-2 : tie.Need-returns-2
+returns-2 c =
+    let b = c .before .before in
+    let p = b .split in
+    let s = b .before .before .before in
+    nearest-large (p .result .minus) (p .result .sig) (p .result .exp) (c .if2 .left) (s .args .x) (held s) (p .ensures)
+
+returns-3 : tie.Need-returns-3
+returns-3 c =
+    let b = c .before in
+    nearest-other (b .before .args .x) (sym (b .is-finite .ensures) ∙ c .if1 .left)
+
+pub round-spec : {M : Type 1} → statement M
+round-spec =
+    tie.close
+    (tie.spec
+    is-finite-requires
+    split-requires
+    sub-half-up
+    half-up-requires
+    signed-requires
+    returns
+    returns-2
+    returns-3)

@@ -1,0 +1,54 @@
+// E, which stands for `exp`, and 10^y: document 01's steps, each operation rounded once.
+ghost use mathlib.Core.Path.{_≡_};
+ghost use Rattle.numbers.specs.Arithmetic.{one};
+ghost use Rattle.numbers.specs.Exponential.{expOf, expSeries, tenTo, twoTo};
+use crate::whole::round;
+
+// E(x): 0 below -690, plus infinity above 690.
+pub fn exp(x: f64) -> f64
+    ensures { λ r. ⌜ r ≡ expOf x ⌝ }
+{
+    if x < -690.0 {
+        return 0.0;
+    }
+    if x > 690.0 {
+        return 1.0 / 0.0;
+    }
+    let k: f64 = round(x * 1.4426950408889634);
+    let r: f64 = x - k * 0.693147180369123816490 - k * 1.90821492927058770002e-10;
+    exp_series(r) * two_to(k)
+}
+
+// 10^y.
+pub fn ten_to(y: f64) -> f64
+    ensures { λ r. ⌜ r ≡ tenTo y ⌝ }
+{
+    exp(y * 2.302585092994046)
+}
+
+// p = 1 + (r * p) / n, from p = 1, for n from 13 down to 1.
+fn exp_series(r: f64) -> f64
+    ensures { λ y. ⌜ y ≡ expSeries 13 r one ⌝ }
+{
+    let mut p: f64 = 1.0;
+    let mut n: u64 = 13;
+    while n > 0 {
+        p = 1.0 + r * p / (n as f64);
+        n = n - 1;
+    }
+    p
+}
+
+// 2 ^ k for a whole k from -1022 to 1023, by the exponent's field. A NaN for others.
+fn two_to(k: f64) -> f64
+    ensures { λ r. ⌜ r ≡ twoTo k ⌝ }
+{
+    let field: f64 = k + 1023.0;
+    if field >= 1.0 {
+        if field <= 2046.0 {
+            return f64::from_bits(std::num::truncating_f64_to_u64(field) * 0x10_0000_0000_0000);
+        }
+        return 0.0 / 0.0;
+    }
+    0.0 / 0.0
+}

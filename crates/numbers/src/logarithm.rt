@@ -1,0 +1,73 @@
+// L, which stands for the natural logarithm, `ln_1p` and `log10`: document 01's steps, each
+// operation rounded once.
+ghost use mathlib.Core.Path.{_≡_};
+ghost use Rattle.numbers.specs.Arithmetic.{zero⁺};
+ghost use Rattle.numbers.specs.Logarithm.{log10Of, log1pOf, logAt, logOf, logSeries, logTwice};
+use crate::float::widen;
+use crate::narrow::narrow;
+
+// L(v), for a positive normal v or plus infinity. A NaN for others.
+pub fn ln(v: f64) -> f64
+    ensures { λ y. ⌜ y ≡ logOf v ⌝ }
+{
+    if v >= 2.2250738585072014e-308 {
+        if v < 1.0 / 0.0 {
+            let bits: u64 = f64::to_bits(v);
+            let m: f64 = f64::from_bits(bits % 0x10_0000_0000_0000 + 0x3ff0_0000_0000_0000);
+            let e: f64 = (bits / 0x10_0000_0000_0000) as f64 - 1023.0;
+            if m > 1.4142135623730951 {
+                return log_at(m * 0.5, e + 1.0);
+            }
+            return log_at(m, e);
+        }
+        return v;
+    }
+    0.0 / 0.0
+}
+
+// The nearest f32 of ln(1 + w). Up to 0.375 the series takes w itself: 1 + w would lose its last
+// digits.
+pub fn ln_1p(w: f32) -> f32
+    ensures { λ y. ⌜ y ≡ log1pOf w ⌝ }
+{
+    let x: f64 = widen(w);
+    if x <= 0.375 {
+        return narrow(log_twice(x / (2.0 + x)));
+    }
+    narrow(ln(1.0 + x))
+}
+
+// log10(v).
+pub fn log10(v: f64) -> f64
+    ensures { λ y. ⌜ y ≡ log10Of v ⌝ }
+{
+    ln(v) / 2.302585092994046
+}
+
+// L of m * 2 ^ e, with m near 1.
+fn log_at(m: f64, e: f64) -> f64
+    ensures { λ y. ⌜ y ≡ logAt m e ⌝ }
+{
+    let t: f64 = log_twice((m - 1.0) / (m + 1.0));
+    e * 0.693147180369123816490 + (e * 1.90821492927058770002e-10 + t)
+}
+
+// 2 * (s * q): the logarithm of (1 + s) / (1 - s).
+fn log_twice(s: f64) -> f64
+    ensures { λ y. ⌜ y ≡ logTwice s ⌝ }
+{
+    2.0 * (s * log_series(s * s))
+}
+
+// q = q * z + 1 / n, from q = 0, for n = 23, 21, .. 1.
+fn log_series(z: f64) -> f64
+    ensures { λ y. ⌜ y ≡ logSeries 12 z zero⁺ ⌝ }
+{
+    let mut q: f64 = 0.0;
+    let mut i: u64 = 12;
+    while i > 0 {
+        i = i - 1;
+        q = q * z + 1.0 / ((2 * i + 1) as f64);
+    }
+    q
+}
