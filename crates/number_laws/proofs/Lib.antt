@@ -1,3 +1,4 @@
 pub mod Signed
 pub mod Apart
 pub mod Bounds
+pub mod Bounded
