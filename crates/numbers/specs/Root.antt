@@ -2,6 +2,7 @@
 use Prim.Native.Nat.{ℕ, zero, suc, _+_, _-_, _*_, _/_, _^_, _≤_, _<_}
 use mathlib.Core.Bool.{true, false, cond}
 use mathlib.Core.Path.{_≡_}
+use lib.Count.{leadingZeros}
 use lib.Dec.{leb, ltb}
 use lib.Ieee.{Float, nan, inf, fin, binary64, up, down, size, units}
 
@@ -31,6 +32,11 @@ rootOf (fin true (suc m) e) = nan
 rootOf (fin false (suc m) e) = rootUnits (suc m * up e * 2 ^ 1074 / down e)
 
 -- ---- for the inner functions
+-- sig * 2 ^ exp with its significand brought to 53 digits: full * 2 ^ (scale - 52).
+pub record Normalised (sig exp full scale : ℕ) : Type 0 where
+  pub full-is : full ≡ sig * 2 ^ (leadingZeros 64 sig - 11)
+  pub scale-is : scale ≡ exp + 52 - (leadingZeros 64 sig - 11)
+
 -- c is the whole number nearest to the root of n: c - 1/2 < √n < c + 1/2, with each side squared.
 pub record NearRoot (n c : ℕ) : Type 0 where
   pub above : c * c < n + c

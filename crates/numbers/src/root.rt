@@ -2,64 +2,74 @@
 // mended by one in whole numbers (`polish`), exactly; bisection stands in where the guess is off.
 ghost use Prim.Native.Nat.{_+_, _*_, _^_, _<_, _≤_};
 ghost use lib.Ieee.{binary64, toBits};
-ghost use mathlib.Core.Bool.{false, true};
+ghost use lib.Dec.{ltb};
+ghost use mathlib.Core.Bool.{cond, false, true};
 ghost use mathlib.Core.Logic.{_⊎_};
 ghost use mathlib.Core.Path.{_≡_};
-ghost use Rattle.numbers.specs.Root.{NearRoot, Squared, rootOf, rootUnits};
-use crate::float::is_finite;
+ghost use Rattle.numbers.specs.Root.{NearRoot, Normalised, Squared, rootOf, rootUnits};
 use crate::parts::split;
 
-// The square root of x: the nearest f64 to the exact root.
+// The square root of x: the nearest f64 to the exact root. A zero and a NaN are given back.
 pub fn root(x: f64) -> f64
     ensures { λ r. ⌜ r ≡ rootOf x ⌝ }
 {
-    if is_finite(x) {
-        let p = split(x);
-        if p.sig == 0 {
-            return x;
-        }
-        if p.minus {
-            return 0.0 / 0.0;
-        }
-        return f64::from_bits(root_bits(p.sig, p.exp));
-    }
     if x > 0.0 {
+        if x < 1.0 / 0.0 {
+            let p = split(x);
+            return f64::from_bits(root_bits(p.sig, p.exp));
+        }
         return x;
     }
-    0.0 / 0.0
+    if x < 0.0 {
+        return 0.0 / 0.0;
+    }
+    x
 }
 
-// The bit pattern of the root of sig * 2 ^ exp units of 2 ^ -1074. The significand is brought to
-// 53 digits first, so that a subnormal goes the same way.
+// The bit pattern of the root of sig * 2 ^ exp units of 2 ^ -1074.
 fn root_bits(sig: u64, exp: u64) -> u64
     requires { ⌜ 0 < sig ⌝ ∗ ⌜ sig < 2 ^ 53 ⌝ ∗ ⌜ exp ≤ 2045 ⌝ }
     ensures { λ r. ⌜ r ≡ toBits binary64 (rootUnits (sig * 2 ^ exp)) ⌝ }
 {
-    let zeros: u64 = (u64::leading_zeros(sig) as u64) - 11;
-    let full: u64 = sig << zeros;
-    let scale: u64 = exp + 52 - zeros;
-    let c: u64 = root_digits(full, scale % 2);
-    (scale / 2 + 485) * 0x10_0000_0000_0000 + c
+    let n = normalise(sig, exp);
+    let c: u64 = root_digits(n.full, n.scale % 2);
+    (n.scale / 2 + 485) * 0x10_0000_0000_0000 + c
 }
 
-// The whole number nearest to the root of full * 2 ^ (52 + odd).
+// A significand of 53 digits, and the exponent that its leading digit has in units of 2 ^ -1074.
+struct Normal {
+    full: u64,
+    scale: u64,
+}
+
+// Brings a significand to 53 digits by its leading zeros, so that a subnormal goes the same way as
+// others. A normal has them already: the test spares the count.
+fn normalise(sig: u64, exp: u64) -> Normal
+    requires { ⌜ 0 < sig ⌝ ∗ ⌜ sig < 2 ^ 53 ⌝ ∗ ⌜ exp ≤ 2045 ⌝ }
+    ensures { λ r. ⌜ Normalised sig exp (r .full) (r .scale) ⌝ }
+{
+    if sig >= 0x10_0000_0000_0000 {
+        return Normal {
+            full: sig,
+            scale: exp + 52,
+        };
+    }
+    let zeros: u64 = (u64::leading_zeros(sig) as u64) - 11;
+    Normal {
+        full: sig << zeros,
+        scale: exp + 52 - zeros,
+    }
+}
+
+// The whole number nearest to the root of full * 2 ^ (52 + odd). No branch on `odd`: it is as good
+// as random.
 fn root_digits(full: u64, odd: u64) -> u64
     requires { ⌜ 2 ^ 52 ≤ full ⌝ ∗ ⌜ full < 2 ^ 53 ⌝ ∗ ⌜ odd ≤ 1 ⌝ }
     ensures { λ r. ⌜ NearRoot (full * 2 ^ (52 + odd)) r ⌝ }
 {
-    if odd == 0 {
-        near_root(
-            guess(0x3fe0_0000_0000_0000 + full),
-            full / 4,
-            full % 4 * 0x10_0000_0000_0000,
-        )
-    } else {
-        near_root(
-            guess(0x3ff0_0000_0000_0000 + full),
-            full / 2,
-            full % 2 * 0x20_0000_0000_0000,
-        )
-    }
+    let wide: u64 = full << odd;
+    let c: u64 = guess(0x3fe0_0000_0000_0000 + odd * 0x10_0000_0000_0000 + full);
+    near_root(c, wide / 4, wide % 4 * 0x10_0000_0000_0000)
 }
 
 // The whole number nearest to the root of hi * 2 ^ 54 + lo, from a guess c.
@@ -81,9 +91,9 @@ fn guess(bits: u64) -> u64
     let v: f64 = f64::from_bits(bits);
     let y0: f64 = f64::from_bits(0x5fe6_eb50_c7b5_37a9 - bits / 2);
     let h: f64 = v * 0.5;
-    let y1: f64 = y0 * (1.5 - h * y0 * y0);
-    let y2: f64 = y1 * (1.5 - h * y1 * y1);
-    let y3: f64 = y2 * (1.5 - h * y2 * y2);
+    let y1: f64 = 1.5 * y0 - h * y0 * (y0 * y0);
+    let y2: f64 = 1.5 * y1 - h * y1 * (y1 * y1);
+    let y3: f64 = 1.5 * y2 - h * y2 * (y2 * y2);
     let s: f64 = v * y3;
     let r: f64 = s + 0.5 * y3 * (v - s * s);
     if r >= 2.0 {
@@ -95,9 +105,10 @@ fn guess(bits: u64) -> u64
     0x10_0000_0000_0000
 }
 
-// The exact check: c, or a neighbour of c, if that is the whole number nearest to the root of
-// hi * 2 ^ 54 + lo; and 0 otherwise. It weighs hi * 2 ^ 54 + lo - c * c, as left - right, against
-// ±c and its like, since (c + 1/2) ^ 2 is c * c + c + 1/4.
+// The exact check: c, or the neighbour of c, that is the whole number nearest to the root of
+// hi * 2 ^ 54 + lo; and 0 if none of the three is. It weighs hi * 2 ^ 54 + lo - c * c, as
+// left - right, against ±c and its like, since (c + 1/2) ^ 2 is c * c + c + 1/4. The choice among
+// the three is made without a branch: a guess is off by one in one of seven.
 fn polish(c: u64, hi: u64, lo: u64) -> u64
     requires { ⌜ 0 < c ⌝ ∗ ⌜ c ≤ 2 ^ 53 ⌝ ∗ ⌜ hi < 2 ^ 52 ⌝ ∗ ⌜ lo < 2 ^ 54 ⌝ }
     ensures { λ r. ⌜ (r ≡ 0) ⊎ NearRoot (hi * 2 ^ 54 + lo) r ⌝ }
@@ -112,19 +123,20 @@ fn polish(c: u64, hi: u64, lo: u64) -> u64
     }
     let left: u64 = (hi + 4 - top) * 0x40_0000_0000_0000 + lo;
     let right: u64 = 0x100_0000_0000_0000 + s.low;
-    if left <= right + c {
-        if right < left + c {
-            return c;
-        }
-        if right + 2 < left + 3 * c {
-            return c - 1;
-        }
+    if left > right + 3 * c + 2 {
         return 0;
     }
-    if left <= right + 3 * c + 2 {
-        return c + 1;
+    if right + 2 >= left + 3 * c {
+        return 0;
     }
-    0
+    c + one_if_above(left, right + c) - one_if_above(right + 1, left + c)
+}
+
+// 1 where a is above b, else 0.
+fn one_if_above(a: u64, b: u64) -> u64
+    ensures { λ r. ⌜ (r ≡ cond (ltb b a) 1 0) × (r ≤ 1) ⌝ }
+{
+    if a > b { 1 } else { 0 }
 }
 
 // The whole number nearest to the root of hi * 2 ^ 54 + lo, by halving an interval: 53 turns.

@@ -2,7 +2,7 @@
 use mathlib.Core.Path.{_≡_, refl, sym, ap, _∙_, subst}
 use mathlib.Core.Logic.{_⊎_, inl, inr}
 use Prim.Native.Nat.{ℕ, zero, suc, _+_, _-_, _*_, _/_, _%_, _^_, _≤_, _<_}
-use native.Mathlib.Nat.{le-trans, le-of-eq, le-refl, le-antisymm, lt-of-lt-of-le, lt-of-le-of-lt, lt-of-not-le, not-le-of-lt, mul-le-mul, add-le-add, div-add-mod', pow-succ', pow-suc, le-of-suc-le-suc, zero-add, mul-one}
+use native.Mathlib.Nat.{le-trans, le-of-eq, le-refl, le-antisymm, lt-of-lt-of-le, lt-of-le-of-lt, lt-of-not-le, not-le-of-lt, mul-le-mul, add-le-add, div-add-mod', pow-succ', pow-suc, le-of-suc-le-suc, zero-add, mul-one, lt-irrefl}
 use native.Mathlib.Omega.{arith}
 use mathlib.Core.Bool.{Bool, true, false, not, cond}
 use lib.Dec.{T, leb, ltb, leb→le, nleb→lt, ltb→lt, nltb→le, lit<, lit≤}
@@ -126,11 +126,40 @@ module _ (q t l hi lo : ℕ) (is : t * 18014398509481984 + l ≡ q) (near : t �
   abbrev pub N : ℕ
   N = hi * 18014398509481984 + lo
 
-  pub itself : (c : ℕ) → q ≡ c * c → L ≤ R + c → R < L + c → NearRoot N c
+  itself : (c : ℕ) → q ≡ c * c → L ≤ R + c → R < L + c → NearRoot N c
   itself c e h k = record { above = omega arith; below = omega arith }
 
-  pub under : (d : ℕ) → q ≡ suc d * suc d → L + suc d ≤ R → R + 2 < L + 3 * suc d → NearRoot N d
+  under : (d : ℕ) → q ≡ suc d * suc d → L + suc d ≤ R → R + 2 < L + 3 * suc d → NearRoot N d
   under d e h k = record { above = omega arith; below = omega arith }
 
-  pub over : (c : ℕ) → q ≡ c * c → R + c < L → L ≤ R + 3 * c + 2 → NearRoot N (c + 1)
+  over : (c : ℕ) → q ≡ c * c → R + c < L → L ≤ R + 3 * c + 2 → NearRoot N (c + 1)
   over c e h k = record { above = omega arith; below = omega arith }
+
+  -- one more where the root lies above c + 1/2, one less where it lies below c - 1/2
+  pub mended : (c u d : ℕ) → 0 < c → q ≡ c * c → u ≡ cond (ltb (R + c) L) 1 0 → d ≡ cond (ltb (L + c) (R + 1)) 1 0 → L ≤ R + 3 * c + 2 → R + 2 < L + 3 * c → (d ≤ c + u) × NearRoot N (c + u - d)
+  mended zero u d P e eu ed h k = absurd (lt-irrefl 0 P)
+  mended (suc c) u d P e eu ed h k = go (ltb (R + suc c) L) (ltb→lt (R + suc c) L) (nltb→le (R + suc c) L) (ltb (L + suc c) (R + 1)) (ltb→lt (L + suc c) (R + 1)) (nltb→le (L + suc c) (R + 1)) eu ed
+    where
+      go : (x : Bool) → (T x → R + suc c < L) → (T (not x) → L ≤ R + suc c) → (y : Bool) → (T y → L + suc c < R + 1) → (T (not y) → R + 1 ≤ L + suc c) → u ≡ cond x 1 0 → d ≡ cond y 1 0 → (d ≤ suc c + u) × NearRoot N (suc c + u - d)
+      go true a b true a' b' r s = absurd (both L R c (a tt) (a' tt))
+        where
+          both : (l r c : ℕ) → r + suc c < l → l + suc c < r + 1 → ⊥
+          both l r c g i = omega arith
+      go true a b false a' b' r s = (omega arith, subst (λ (z : ℕ). NearRoot N z) (at u d c r s) (over (suc c) e (a tt) h))
+        where
+          at : (u d c : ℕ) → u ≡ 1 → d ≡ 0 → suc c + 1 ≡ suc c + u - d
+          at u d c f g = omega arith
+      go false a b true a' b' r s = (omega arith, subst (λ (z : ℕ). NearRoot N z) (at u d c r s) (under c e (low L R c (a' tt)) k))
+        where
+          at : (u d c : ℕ) → u ≡ 0 → d ≡ 1 → c ≡ suc c + u - d
+          at u d c f g = omega arith
+
+          low : (l r c : ℕ) → l + suc c < r + 1 → l + suc c ≤ r
+          low l r c g = omega arith
+      go false a b false a' b' r s = (omega arith, subst (λ (z : ℕ). NearRoot N z) (at u d c r s) (itself (suc c) e (b tt) (high L R c (b' tt))))
+        where
+          at : (u d c : ℕ) → u ≡ 0 → d ≡ 0 → suc c ≡ suc c + u - d
+          at u d c f g = omega arith
+
+          high : (l r c : ℕ) → r + 1 ≤ l + suc c → r < l + suc c
+          high l r c g = omega arith

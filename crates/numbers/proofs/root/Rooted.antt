@@ -5,7 +5,7 @@ use Prim.Native.Nat.{ℕ, zero, suc, _+_, _-_, _*_, _/_, _%_, _^_, _≤_, _<_}
 use native.Mathlib.Nat.{le-trans, le-of-eq, le-refl, le-of-suc-le-suc, lt-irrefl, lt-of-lt-of-le, lt-of-le-of-lt, lt-of-not-le, not-le-of-lt, mul-one, mul-assoc, mul-comm, mul-pos, zero-mul, zero-add, zero-lt-suc, mul-le-mul-right, mul-div-cancel, mod-eq-of-lt, pow-succ'}
 use native.Mathlib.Omega.{arith}
 use mathlib.Core.Bool.{Bool, true, false, not, cond, true≢false, false≢true}
-use lib.Dec.{T, ltb, ltb→lt, not-T, lit<, lit≤}
+use lib.Dec.{T, ltb, ltb→lt, nltb→le, not-T, lit<, lit≤}
 use lib.Pow.{pow-pos, pow-mono, pow-lt, pow-add, shl-lt}
 use lib.Count.{leadingZeros, leading-length}
 use lib.Ieee.{Float, nan, inf, fin, binary64, up, down, size, odd, units, fits, isNan, nanBits, toBits, ofBits, le, lt}
@@ -129,13 +129,13 @@ module _ (sig exp : ℕ) (P : 0 < sig) (S : sig < 2 ^ 53) (E : exp ≤ 2045) whe
   abbrev pub F : ℕ
   F = sig * 2 ^ Z
 
-  F-lt : F < 2 ^ 53
+  pub F-lt : F < 2 ^ 53
   F-lt = subst (λ (x : ℕ). F < 2 ^ x) (swap M Z Z-is) (shl-lt M Z (leading-length 64 sig wide .2))
     where
       swap : (m z : ℕ) → z + m ≡ 53 → m + z ≡ 53
       swap m z e = omega arith
 
-  F-ge : 2 ^ 52 ≤ F
+  pub F-ge : 2 ^ 52 ≤ F
   F-ge = le-trans (le-of-eq (ap (λ (x : ℕ). 2 ^ x) (sym (less M Z Z-is M-pos)) ∙ pow-add 2 (M - 1) Z)) (mul-le-mul-right (2 ^ Z) low-half)
     where
       less : (m z : ℕ) → z + m ≡ 53 → 0 < m → m - 1 + z ≡ 52
@@ -145,11 +145,13 @@ module _ (sig exp : ℕ) (P : 0 < sig) (S : sig < 2 ^ 53) (E : exp ≤ 2045) whe
   pub full-is : (sig * 2 ^ Z) % 2 ^ 64 ≡ F
   full-is = mod-eq-of-lt (lt-of-lt-of-le F-lt (lit≤ tt))
 
-  pub full-lt : (sig * 2 ^ Z) % 2 ^ 64 < 9007199254740992
-  full-lt = subst (λ (x : ℕ). x < 9007199254740992) (sym full-is) F-lt
-
-  pub full-ge : 4503599627370496 ≤ (sig * 2 ^ Z) % 2 ^ 64
-  full-ge = subst (λ (x : ℕ). 4503599627370496 ≤ x) (sym full-is) F-ge
+  -- a significand of 53 digits is not moved
+  pub none-left : 2 ^ 52 ≤ sig → Z ≡ 0
+  none-left h = go Z F-lt
+    where
+      go : (z : ℕ) → sig * 2 ^ z < 2 ^ 53 → z ≡ 0
+      go zero g = refl
+      go (suc z) g = absurd (not-le-of-lt g (le-trans (le-of-eq (pow-succ' 2 52 ∙ mul-comm 2 (2 ^ 52))) (native.Mathlib.Nat.mul-le-mul h (pow-mono {i = 1} {j = suc z} (zero-lt-suc z)))))
 
   abbrev pub C : ℕ
   C = exp + 52 - Z
@@ -229,17 +231,16 @@ module _ (sig exp : ℕ) (P : 0 < sig) (S : sig < 2 ^ 53) (E : exp ≤ 2045) whe
   root-near : NearRoot N (nearRoot N)
   root-near = nearRoot-is N (lt-of-lt-of-le (lit< tt) N-ge) N-lt
 
-  pub root-bits-is : (c : ℕ) → NearRoot ((sig * 2 ^ Z) % 2 ^ 64 * 2 ^ (52 + C % 2)) c → K * 4503599627370496 + c ≡ toBits binary64 (rootUnits (sig * 2 ^ exp))
+  pub root-bits-is : (c : ℕ) → NearRoot N c → K * 4503599627370496 + c ≡ toBits binary64 (rootUnits (sig * 2 ^ exp))
   root-bits-is c h =
-      let h' : NearRoot N c = subst (λ (x : ℕ). NearRoot (x * 2 ^ (52 + C % 2)) c) full-is h in
-      let e : nearRoot N ≡ c = near-unique N (nearRoot N) c root-near h' in
+      let e : nearRoot N ≡ c = near-unique N (nearRoot N) c root-near h in
       sym (zero-add (K * 4503599627370496 + c))
-      ∙ sym (units-bits binary64 c K false (digits-le N c N-lt h') (inr (digits-ge N c N-ge h')) K-lt)
+      ∙ sym (units-bits binary64 c K false (digits-le N c N-lt h) (inr (digits-ge N c N-ge h)) K-lt)
       ∙ ap (λ (x : ℕ). toBits binary64 (units binary64 false x K)) (sym e)
       ∙ ap (toBits binary64) (sym opened)
 
-  pub c-le : (c : ℕ) → NearRoot ((sig * 2 ^ Z) % 2 ^ 64 * 2 ^ (52 + C % 2)) c → c ≤ 9007199254740992
-  c-le c h = digits-le N c N-lt (subst (λ (x : ℕ). NearRoot (x * 2 ^ (52 + C % 2)) c) full-is h)
+  pub c-le : (c : ℕ) → NearRoot N c → c ≤ 9007199254740992
+  c-le c h = digits-le N c N-lt h
 
   pub root-fits : T (fits binary64 (rootUnits (sig * 2 ^ exp)))
   root-fits = subst (λ (v : Float). T (fits binary64 v)) (sym opened) (units-fits (nearRoot N) K (digits-le N (nearRoot N) N-lt root-near))
@@ -282,34 +283,67 @@ root-positive (fin true m e) a A h = absurd (true≢false (h .0))
 root-positive (fin false zero e) a A h = absurd (no-zero a (down e) A (down-pos e) (sym (nothing e) ∙ h .1))
 root-positive (fin false (suc m) e) a A h = ap rootUnits (sym (ap (λ (x : ℕ). x / down e) (h .1) ∙ mul-div-cancel a (down-pos e)))
 
-pub root-negative : (x : Float) (s : Bool) (a : ℕ) → s ≡ true → 0 < a → HasValue x s a (2 ^ 1074) → nan ≡ rootOf x
-unfolding rootOf
-root-negative nan s a t A h = absurd h
-root-negative (inf u) s a t A h = absurd h
-root-negative (fin false m e) s a t A h = absurd (false≢true (h .0 ∙ t))
-root-negative (fin true zero e) s a t A h = absurd (no-zero a (down e) A (down-pos e) (sym (nothing e) ∙ h .1))
-root-negative (fin true (suc m) e) s a t A h = refl
+-- ---- the tests of `root`
+abbrev origin : Float
+origin = fin false 0 (lib.IntN.pos 0)
 
-pub root-zero : (x : Float) (s : Bool) (a : ℕ) → a ≡ 0 → HasValue x s a (2 ^ 1074) → x ≡ rootOf x
-unfolding rootOf
-root-zero nan s a z h = refl
-root-zero (inf t) s a z h = absurd h
-root-zero (fin t zero e) s a z h = refl
-root-zero (fin t (suc m) e) s a z h = absurd (lt-irrefl 0 (subst (λ (x : ℕ). 0 < x) (h .1 ∙ ap (λ (x : ℕ). x * down e) z ∙ zero-mul (down e)) (mul-pos (mul-pos (zero-lt-suc m) (up-pos e)) (pow-pos 1074))))
+no-below : (a : ℕ) → ltb 0 a ≡ false → 0 < a → ⊥
+no-below a h k = not-le-of-lt k (nltb→le 0 a (subst (λ (b : Bool). T (not b)) (sym h) tt))
 
-pub root-above : (x : Float) → finite x ≡ false → lt (fin false 0 (lib.IntN.pos 0)) x ≡ true → x ≡ rootOf x
+size-pos : (m : ℕ) (e : lib.IntN.ℤ) → 0 < suc m * up e * 1
+size-pos m e = mul-pos (mul-pos (zero-lt-suc m) (up-pos e)) (lit< tt)
+
+-- above zero, and not infinite
+pub finite-above : (x : Float) → lt origin x ≡ true → lt x (inf false) ≡ true → T (finite x)
+unfolding lt
+finite-above nan h k = absurd (false≢true h)
+finite-above (inf true) h k = absurd (false≢true h)
+finite-above (inf false) h k = absurd (false≢true k)
+finite-above (fin s m e) h k = tt
+
+pub plus-above : (x : Float) (s : Bool) (a : ℕ) → lt origin x ≡ true → HasValue x s a (2 ^ 1074) → s ≡ false
+unfolding lt
+plus-above nan s a h v = absurd v
+plus-above (inf t) s a h v = absurd v
+plus-above (fin true m e) s a h v = absurd (false≢true h)
+plus-above (fin false m e) s a h v = sym (v .0)
+
+pub some-above : (x : Float) (s : Bool) (a : ℕ) → lt origin x ≡ true → HasValue x s a (2 ^ 1074) → a ≡ 0 → ⊥
+unfolding lt
+some-above nan s a h v z = v
+some-above (inf t) s a h v z = v
+some-above (fin true m e) s a h v z = false≢true h
+some-above (fin false zero e) s a h v z = lt-irrefl 0 (lt-of-le-of-lt Prim.Native.Nat.zero-le (subst (λ (k : ℕ). 0 * 1 * down e < k) (ap (λ (k : ℕ). k * 1) (zero-mul (up e))) (ltb→lt (0 * 1 * down e) (0 * up e * 1) (subst T (sym h) tt))))
+some-above (fin false (suc m) e) s a h v z = no-zero (suc m * up e) (2 ^ 1074) (mul-pos (zero-lt-suc m) (up-pos e)) (pow-pos 1074) (sym (zero-mul (down e)) ∙ ap (λ (k : ℕ). k * down e) (sym z) ∙ sym (v .1))
+
+pub root-infinite : (x : Float) → lt origin x ≡ true → lt x (inf false) ≡ false → x ≡ rootOf x
 unfolding rootOf lt
-root-above nan h k = refl
-root-above (inf true) h k = absurd (false≢true k)
-root-above (inf false) h k = refl
-root-above (fin s m e) h k = absurd (true≢false h)
+root-infinite nan h k = refl
+root-infinite (inf true) h k = absurd (false≢true h)
+root-infinite (inf false) h k = refl
+root-infinite (fin s m e) h k = absurd (true≢false k)
 
-pub root-none : (x : Float) → finite x ≡ false → lt (fin false 0 (lib.IntN.pos 0)) x ≡ false → nan ≡ rootOf x
+pub root-below : (x : Float) → lt x origin ≡ true → nan ≡ rootOf x
 unfolding rootOf lt
-root-none nan h k = refl
-root-none (inf true) h k = refl
-root-none (inf false) h k = absurd (true≢false k)
-root-none (fin s m e) h k = absurd (true≢false h)
+root-below nan h = refl
+root-below (inf true) h = refl
+root-below (inf false) h = absurd (false≢true h)
+root-below (fin true zero e) h = absurd (lt-irrefl 0 (subst (λ (k : ℕ). 0 < k) (simp (zero-mul)) (ltb→lt 0 (0 * up e * 1 + 0 * 1 * down e) (subst T (sym h) tt))))
+root-below (fin true (suc m) e) h = refl
+root-below (fin false m e) h = absurd (no-less (m * up e * 1) (ltb→lt (m * up e * 1) (0 * 1 * down e) (subst T (sym h) tt)))
+  where
+    no-less : (a : ℕ) → a < 0 * 1 * down e → ⊥
+    no-less a k = not-le-of-lt (subst (λ (z : ℕ). a < z) (zero-mul (down e)) k) Prim.Native.Nat.zero-le
+
+-- a zero and a NaN
+pub root-level : (x : Float) → lt origin x ≡ false → lt x origin ≡ false → x ≡ rootOf x
+unfolding rootOf lt
+root-level nan h k = refl
+root-level (inf true) h k = absurd (true≢false k)
+root-level (inf false) h k = absurd (true≢false h)
+root-level (fin s zero e) h k = refl
+root-level (fin true (suc m) e) h k = absurd (no-below (suc m * up e * 1 + 0 * 1 * down e) k (lt-of-lt-of-le (size-pos m e) (native.Mathlib.Nat.le-add-right _ _)))
+root-level (fin false (suc m) e) h k = absurd (no-below (suc m * up e * 1) (subst (λ (z : ℕ). ltb z (suc m * up e * 1) ≡ false) (zero-mul (down e)) h) (size-pos m e))
 
 -- ---- reading the pattern back
 pub read-back : (n : ℕ) (v : Float) → n ≡ toBits binary64 v → T (fits binary64 v) → ofBits binary64 n ≡ v

@@ -1,65 +1,41 @@
 -- `numbers::root::root_bits` meets its contract. Assumes nothing.
+use mathlib.Core.Path.{_≡_, sym, ap, _∙_, subst}
+use Prim.Native.Nat.{ℕ, _+_, _*_, _/_, _%_, _^_, _≤_, _<_}
 use native.Mathlib.Omega.{arith}
-use lib.Count.{leading-le}
-use Rattle.numbers.proofs.root.Rooted.{zeros-ge, Z-le, full-ge, full-lt, c-le, root-bits-is}
 use borrow.Author.Needs.{needs}
+use Rattle.numbers.specs.Root.{NearRoot}
+use Rattle.numbers.proofs.root.Rooted.{F-ge, F-lt, c-le, root-bits-is}
 use Rattle.numbers.proofs.root.root_bits.Statement.{statement}
 use Rattle.numbers.proofs.root.root_bits.Tie as tie
-use Rattle.numbers.proofs.root.root_bits.Reads as reads
-use Rattle.numbers.proofs.root.root_bits.Lts as lts
-use Rattle.numbers.proofs.root.root_digits.Reads as root-digits-reads
 
--- src/lib.rt:329:23
-cast-zeros : tie.Need-cast-zeros
-cast-zeros c = omega (arith, leading-le 64 (c .args .sig))
-
--- src/lib.rt:329:22
-sub-zeros : tie.Need-sub-zeros
-sub-zeros c = zeros-ge (c .args .sig) (c .args .exp) (c .pre .0) (c .pre .1 .0) (c .pre .1 .1)
-
--- src/lib.rt:330:21
-shl-full : tie.Need-shl-full
-shl-full c = omega (arith, Z-le (c .args .sig) (c .args .exp) (c .pre .0) (c .pre .1 .0) (c .pre .1 .1))
-
--- src/lib.rt:331:22
-add-scale : tie.Need-add-scale
-add-scale c = search needs
-
--- src/lib.rt:331:22
-sub-scale : tie.Need-sub-scale
-sub-scale c = omega (arith, Z-le (c .args .sig) (c .args .exp) (c .pre .0) (c .pre .1 .0) (c .pre .1 .1))
-
--- src/lib.rt:332:9
 root-digits-requires : tie.Need-root-digits-requires
-root-digits-requires c κs = (full-ge (c .args .sig) (c .args .exp) (c .pre .0) (c .pre .1 .0) (c .pre .1 .1), (full-lt (c .args .sig) (c .args .exp) (c .pre .0) (c .pre .1 .0) (c .pre .1 .1), omega arith))
+root-digits-requires c κs =
+    let s = c .before .before in
+    let n = c .before .normalise .ensures in
+    (subst (λ (k : ℕ). 2 ^ 52 ≤ k) (sym (n .full-is)) (F-ge (s .args .sig) (s .args .exp) (s .pre .0) (s .pre .1 .0) (s .pre .1 .1)), (subst (λ (k : ℕ). k < 2 ^ 53) (sym (n .full-is)) (F-lt (s .args .sig) (s .args .exp) (s .pre .0) (s .pre .1 .0) (s .pre .1 .1)), omega arith))
 
--- src/lib.rt:333:6
-add-result : tie.Need-add-result
-add-result c = search needs
+-- the digits that were found are those of the normalised number
+near : (a b : ℕ) (d e : ℕ) (r : ℕ) → a ≡ b → d ≡ e → NearRoot (a * 2 ^ (52 + d % 2)) r → NearRoot (b * 2 ^ (52 + e % 2)) r
+near a b d e r p q h = subst (λ (k : ℕ). NearRoot (b * 2 ^ (52 + k % 2)) r) q (subst (λ (k : ℕ). NearRoot (k * 2 ^ (52 + d % 2)) r) p h)
 
--- src/lib.rt:333:5
-mul-result : tie.Need-mul-result
-mul-result c = search needs
-
--- src/lib.rt:333:5
 add-result-2 : tie.Need-add-result-2
-add-result-2 c = omega (arith, c-le (c .before .args .sig) (c .before .args .exp) (c .before .pre .0) (c .before .pre .1 .0) (c .before .pre .1 .1) (c .root-digits .result) (c .root-digits .ensures))
+add-result-2 c =
+    let s = c .before .before .before .before in
+    let n = c .before .before .before .normalise .ensures in
+    let d = c .before .root-digits in
+    let small = c-le (s .args .sig) (s .args .exp) (s .pre .0) (s .pre .1 .0) (s .pre .1 .1) (d .result) (near _ _ _ _ (d .result) (n .full-is) (n .scale-is) (d .ensures)) in
+    let low = n .scale-is in
+    omega arith
 
--- src/lib.rt:325:1
 returns : tie.Need-returns
-returns c = root-bits-is (c .before .args .sig) (c .before .args .exp) (c .before .pre .0) (c .before .pre .1 .0) (c .before .pre .1 .1) (c .root-digits .result) (c .root-digits .ensures)
+returns c =
+    let s = c .before .before .before .before in
+    let n = c .before .before .before .normalise .ensures in
+    let d = c .before .root-digits in
+    ap (λ (k : ℕ). (k / 2 + 485) * 4503599627370496 + d .result) (n .scale-is)
+    ∙ root-bits-is (s .args .sig) (s .args .exp) (s .pre .0) (s .pre .1 .0) (s .pre .1 .1) (d .result) (near _ _ _ _ (d .result) (n .full-is) (n .scale-is) (d .ensures))
 
 pub root-bits-spec : {M : Type 1} → statement M
 root-bits-spec =
     tie.close
-    (tie.spec
-    cast-zeros
-    sub-zeros
-    shl-full
-    add-scale
-    sub-scale
-    root-digits-requires
-    add-result
-    mul-result
-    add-result-2
-    returns)
+    (tie.spec (λ c κs. search needs) root-digits-requires (λ c. search needs) (λ c. search needs) add-result-2 returns)

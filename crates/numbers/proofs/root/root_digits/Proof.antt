@@ -1,82 +1,65 @@
 -- `numbers::root::root_digits` meets its contract. Assumes nothing.
-use mathlib.Core.Path.{_≡_, sym, ap, _∙_, subst}
-use Prim.Native.Nat.{ℕ, _+_, _*_, _/_, _%_, _^_, _≤_}
+use mathlib.Core.Path.{_≡_, refl, sym, ap, _∙_, subst}
+use mathlib.Core.Logic.{_⊎_, inl, inr}
+use Prim.Native.Nat.{ℕ, zero, suc, _+_, _*_, _/_, _%_, _^_, _≤_, _<_}
+use native.Mathlib.Nat.{mul-one}
 use native.Mathlib.Omega.{arith}
-use Rattle.numbers.specs.Root.{NearRoot}
 use borrow.Author.Needs.{needs}
+use Rattle.numbers.specs.Root.{NearRoot}
 use Rattle.numbers.proofs.root.root_digits.Statement.{statement}
 use Rattle.numbers.proofs.root.root_digits.Tie as tie
-use Rattle.numbers.proofs.root.root_digits.Reads as reads
-use Rattle.numbers.proofs.root.root_digits.Lts as lts
-use Rattle.numbers.proofs.root.guess.Reads as guess-reads
-use Rattle.numbers.proofs.root.near_root.Reads as near-root-reads
 
--- src/lib.rt:318:25
-even : (full o r : ℕ) → o ≡ 0 → NearRoot (full / 4 * 18014398509481984 + full % 4 * 4503599627370496) r → NearRoot (full * 2 ^ (52 + o)) r
-even full o r e h = subst (λ (n : ℕ). NearRoot n r) (at full ∙ ap (λ (k : ℕ). full * 2 ^ (52 + k)) (sym e)) h
+-- full or its double, as a shift by `odd` gives it
+record Widened (full odd : ℕ) : Type 0 where
+  is : full * 2 ^ odd % 2 ^ 64 * 4503599627370496 ≡ full * 2 ^ (52 + odd)
+  at-least : 4503599627370496 ≤ full * 2 ^ odd % 2 ^ 64
+  below : full * 2 ^ odd % 2 ^ 64 < 18014398509481984
+
+widened : (full odd : ℕ) → 2 ^ 52 ≤ full → full < 2 ^ 53 → odd ≤ 1 → Widened full odd
+widened full odd a b h = go (none-or-one odd h)
   where
-    at : (f : ℕ) → f / 4 * 18014398509481984 + f % 4 * 4503599627370496 ≡ f * 4503599627370496
-    at f = omega arith
+    none-or-one : (k : ℕ) → k ≤ 1 → (0 ≡ k) ⊎ (1 ≡ k)
+    none-or-one zero g = inl refl
+    none-or-one (suc k) g = inr (omega arith)
 
-odds : (full o r : ℕ) → (o ≡ 0 → ⊥) → o ≤ 1 → NearRoot (full / 2 * 18014398509481984 + full % 2 * 9007199254740992) r → NearRoot (full * 2 ^ (52 + o)) r
-odds full o r n l h = subst (λ (m : ℕ). NearRoot m r) (at full ∙ ap (λ (k : ℕ). full * 2 ^ (52 + k)) (sym (one o n l))) h
-  where
-    at : (f : ℕ) → f / 2 * 18014398509481984 + f % 2 * 9007199254740992 ≡ f * 9007199254740992
-    at f = omega arith
+    even : (f : ℕ) → 4503599627370496 ≤ f → f < 9007199254740992 → Widened f 0
+    even f p q = record { is = omega arith; at-least = omega arith; below = omega arith }
 
-    one : (k : ℕ) → (k ≡ 0 → ⊥) → k ≤ 1 → k ≡ 1
-    one k a b = omega arith
+    doubled : (f : ℕ) → 4503599627370496 ≤ f → f < 9007199254740992 → Widened f 1
+    doubled f p q = record { is = omega arith; at-least = omega arith; below = omega arith }
 
-add-guess : tie.Need-add-guess
-add-guess c = search needs
+    go : (0 ≡ odd) ⊎ (1 ≡ odd) → Widened full odd
+    go (inl e) = subst (λ (k : ℕ). Widened full k) e (even full a b)
+    go (inr e) = subst (λ (k : ℕ). Widened full k) e (doubled full a b)
 
--- src/lib.rt:318:19
-guess-requires : tie.Need-guess-requires
-guess-requires c κs = search needs
+shl-wide : tie.Need-shl-wide
+shl-wide c = omega arith
 
--- src/lib.rt:318:64
-mul-near-root : tie.Need-mul-near-root
-mul-near-root c = search needs
-
--- src/lib.rt:318:9
 near-root-requires : tie.Need-near-root-requires
-near-root-requires c κs = search needs
+near-root-requires c κs =
+    let s = c .before in
+    let w = widened (s .args .full) (s .args .odd) (s .pre .0) (s .pre .1 .0) (s .pre .1 .1) in
+    (c .guess .ensures .0, (c .guess .ensures .1, (positive _ (w .at-least), (small _ (w .below), low _))))
+  where
+    positive : (w : ℕ) → 4503599627370496 ≤ w → 0 < w / 4
+    positive w h = omega arith
 
--- src/lib.rt:320:25
-add-guess-2 : tie.Need-add-guess-2
-add-guess-2 c = search needs
+    small : (w : ℕ) → w < 18014398509481984 → w / 4 < 2 ^ 52
+    small w h = omega arith
 
--- src/lib.rt:320:19
-guess-requires-2 : tie.Need-guess-requires-2
-guess-requires-2 c κs = search needs
+    low : (w : ℕ) → w % 4 * 4503599627370496 < 2 ^ 54
+    low w = omega arith
 
--- src/lib.rt:320:64
-mul-near-root-2 : tie.Need-mul-near-root-2
-mul-near-root-2 c = search needs
-
--- src/lib.rt:320:9
-near-root-requires-2 : tie.Need-near-root-requires-2
-near-root-requires-2 c κs = search needs
-
--- src/lib.rt:313:1
 returns : tie.Need-returns
-returns c = even _ (c .before .before .before .args .odd) _ (c .before .before .if1 .taken) (c .near-root .ensures)
-
--- src/lib.rt:313:1
-returns-2 : tie.Need-returns-2
-returns-2 c = odds _ (c .before .before .before .args .odd) _ (c .before .before .if1 .left) (c .before .before .before .pre .1 .1) (c .near-root2 .ensures)
+returns c =
+    let s = c .before .before in
+    let w = widened (s .args .full) (s .args .odd) (s .pre .0) (s .pre .1 .0) (s .pre .1 .1) in
+    subst (λ (n : ℕ). NearRoot n (c .near-root .result)) (joined (s .args .full * 2 ^ s .args .odd % 2 ^ 64) ∙ w .is) (c .near-root .ensures)
+  where
+    joined : (w : ℕ) → w / 4 * 18014398509481984 + w % 4 * 4503599627370496 ≡ w * 4503599627370496
+    joined w = omega arith
 
 pub root-digits-spec : {M : Type 1} → statement M
 root-digits-spec =
     tie.close
-    (tie.spec
-    add-guess
-    guess-requires
-    mul-near-root
-    near-root-requires
-    add-guess-2
-    guess-requires-2
-    mul-near-root-2
-    near-root-requires-2
-    returns
-    returns-2)
+    (tie.spec shl-wide (λ c. search needs) (λ c. search needs) (λ c. search needs) (λ c κs. search needs) (λ c. search needs) near-root-requires returns)
