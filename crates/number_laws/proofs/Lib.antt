@@ -2,3 +2,9 @@ pub mod Signed
 pub mod Apart
 pub mod Bounds
 pub mod Bounded
+pub mod Placed
+pub mod Multiples
+pub mod Nearest
+pub mod RootLaws
+pub mod WholeLaws
+pub mod Figures

@@ -1,1 +1,5 @@
 pub mod Values
+pub mod Nearest
+pub mod RootLaws
+pub mod WholeLaws
+pub mod Figures

@@ -57,21 +57,15 @@ fn dropped(sig: u64, exp: u64) -> u64
     }
 }
 
-// sig / 2 ^ shift to the nearest whole number, a tie to the even one.
+// sig / 2 ^ shift to the nearest whole number, a tie to the even one: just under a half is added,
+// or a half where the last digit kept is odd. No branch: the rest is as good as random.
 fn nearest(sig: u64, shift: u64) -> u64
     requires { ⌜ sig < 2 ^ 63 ⌝ ∗ ⌜ 0 < shift ⌝ ∗ ⌜ shift < 64 ⌝ }
     ensures { λ r. ⌜ r ≡ closest sig (2 ^ shift) ⌝ }
 {
-    let whole: u64 = sig >> shift;
-    let rest: u64 = sig - (whole << shift);
     let half: u64 = 1u64 << (shift - 1);
-    if rest < half {
-        whole
-    } else if rest == half {
-        whole + whole % 2
-    } else {
-        whole + 1
-    }
+    let odd: u64 = (sig >> shift) % 2;
+    (sig + (half - 1) + odd) >> shift
 }
 
 // The sign's bit of an f32.

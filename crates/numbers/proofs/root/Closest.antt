@@ -1,15 +1,14 @@
 -- c * 2 ^ k, with c the whole number nearest to √N, of 53 digits, is nearer to √(N * 4 ^ k) than any other number of no more than 53 digits, q * 2 ^ j:
 -- the middle between the two lies beyond the root, said with both sides squared and multiplied by 4. Assumes nothing.
-use mathlib.Core.Path.{_≡_, refl, sym, ap, _∙_, subst}
+use mathlib.Core.Path.{_≡_, sym, subst}
 use mathlib.Core.Logic.{_⊎_, inl, inr}
-use Prim.Native.Nat.{ℕ, zero, suc, _+_, _-_, _*_, _^_, _≤_, _<_}
-use native.Mathlib.Nat.{le-trans, le-of-eq, le-of-lt, lt-of-lt-of-le, lt-of-le-of-lt, not-le-of-lt, lt-of-mul-lt-mul-right, eq-or-lt-of-le, mul-assoc, mul-pos, mul-le-mul, mul-le-mul-right, mul-lt-mul-of-pos-right, pow-succ'}
+use Prim.Native.Nat.{ℕ, suc, _+_, _-_, _*_, _^_, _≤_, _<_}
+use native.Mathlib.Nat.{le-trans, le-of-lt, lt-of-lt-of-le, not-le-of-lt, lt-of-mul-lt-mul-right, eq-or-lt-of-le, mul-pos, mul-le-mul, mul-le-mul-right}
 use native.Mathlib.Omega.{arith}
-use native.Mathlib.Decide.{decLt}
-use mathlib.Core.Bool.{Bool, true, false, not}
-use lib.Dec.{T, leb, leb→le, nleb→lt}
-use lib.Pow.{pow-pos, pow-add, pow-mono}
+use lib.Dec.{lit<}
+use lib.Pow.{pow-pos}
 use Rattle.numbers.specs.Root.{NearRoot}
+use Rattle.numbers.proofs.Encode.{spaced}
 
 over : (c p b n : ℕ) → 0 < p → (c + 1) * p ≤ b → n ≤ c * c + c → 4 * (n * (p * p)) < (c * p + b) * (c * p + b)
 over c p b n P h g =
@@ -37,26 +36,12 @@ least c p b n P h g =
     let w : suc (c * p + b) * suc (c * p + b) ≤ 2 * (c * p) * (2 * (c * p)) = mul-le-mul l l in
     omega arith
 
--- q * 2 ^ j is a multiple of 2 ^ k, or is below 2 ^ 52 * 2 ^ k
-spaced : (q j k : ℕ) → q < 2 ^ 53 → ((t : ℕ) × (q * 2 ^ j ≡ t * 2 ^ k)) ⊎ (q * 2 ^ j < 2 ^ 52 * 2 ^ k)
-spaced q j k Q = go (leb k j) (leb→le k j) (nleb→lt k j)
-  where
-    join : (a b : ℕ) → b ≤ a → a - b + b ≡ a
-    join a b h = omega arith
-
-    less : (a b : ℕ) → a < b → 53 + a ≤ 52 + b
-    less a b h = omega arith
-
-    go : (b : Bool) → (T b → k ≤ j) → (T (not b) → j < k) → ((t : ℕ) × (q * 2 ^ j ≡ t * 2 ^ k)) ⊎ (q * 2 ^ j < 2 ^ 52 * 2 ^ k)
-    go true h g = inl (q * 2 ^ (j - k), ap (λ (x : ℕ). q * x) (ap (λ (x : ℕ). 2 ^ x) (sym (join j k (h tt))) ∙ pow-add 2 (j - k) k) ∙ sym (mul-assoc q (2 ^ (j - k)) (2 ^ k)))
-    go false h g = inr (lt-of-lt-of-le (lib.Pow.shl-lt 53 j Q) (le-trans (pow-mono (less j k (g tt))) (le-of-eq (pow-add 2 52 k))))
-
 module _ (n c k : ℕ) (near : NearRoot n c) (C : 4503599627370496 ≤ c) (N : 2 ^ 104 ≤ n) where
   abbrev A : ℕ
   A = c * 2 ^ k
 
   pub next-above : (q j : ℕ) → q < 2 ^ 53 → A < q * 2 ^ j → 4 * (n * (2 ^ k * 2 ^ k)) < (A + q * 2 ^ j) * (A + q * 2 ^ j)
-  next-above q j Q h = elim (spaced q j k Q) [
+  next-above q j Q h = elim (spaced 53 q j k (lit< tt) Q) [
     | inl t ↦
         let l : c < t .0 = lt-of-mul-lt-mul-right (2 ^ k) (subst (λ (x : ℕ). A < x) (t .1) h) in
         over c (2 ^ k) (q * 2 ^ j) n (pow-pos k) (subst (λ (x : ℕ). (c + 1) * 2 ^ k ≤ x) (sym (t .1)) (mul-le-mul-right (2 ^ k) (up c (t .0) l))) (near .below)
@@ -68,7 +53,7 @@ module _ (n c k : ℕ) (near : NearRoot n c) (C : 4503599627370496 ≤ c) (N : 2
 
 -- below: c = suc d
 smaller : (n d k q j : ℕ) → suc d * suc d < n + suc d → 4503599627370496 ≤ d → q < 2 ^ 53 → q * 2 ^ j < suc d * 2 ^ k → (suc d * 2 ^ k + q * 2 ^ j) * (suc d * 2 ^ k + q * 2 ^ j) < 4 * (n * (2 ^ k * 2 ^ k))
-smaller n d k q j a D Q h = under d (2 ^ k) (q * 2 ^ j) n (pow-pos k) (within (spaced q j k Q)) (shrink n d a)
+smaller n d k q j a D Q h = under d (2 ^ k) (q * 2 ^ j) n (pow-pos k) (within (spaced 53 q j k (lit< tt) Q)) (shrink n d a)
   where
     shrink : (m x : ℕ) → suc x * suc x < m + suc x → x * x + x < m
     shrink m x g = omega arith

@@ -1,0 +1,56 @@
+//! Runs the port beside the Rust in one process. What each mode does stands in the README.
+
+mod compare;
+mod family;
+mod numbers;
+mod progress;
+mod value;
+
+use compare::Effort;
+use std::io::Write;
+use std::process::ExitCode;
+use std::{env, io};
+
+const USAGE: &str = "usage: run [--quick | --bench | --list | --samples]";
+
+fn main() -> ExitCode {
+    let words: Vec<String> = env::args().skip(1).collect();
+    let words: Vec<&str> = words.iter().map(String::as_str).collect();
+    match words[..] {
+        [] => verdict(check(Effort::full())),
+        ["--quick"] => verdict(check(Effort::QUICK)),
+        ["--bench"] => print(&numbers::bench::table()),
+        ["--list"] => print(&numbers::list::lines()),
+        ["--samples"] => print(&numbers::samples::lines()),
+        _ => {
+            eprintln!("{USAGE}");
+            ExitCode::from(2)
+        }
+    }
+}
+
+/// Every part of the port beside the Rust's.
+fn check(effort: Effort) -> bool {
+    let parts = [numbers::check::check(effort)];
+    parts.into_iter().all(|same| same)
+}
+
+fn verdict(same: bool) -> ExitCode {
+    if same {
+        println!("all the same");
+        ExitCode::SUCCESS
+    } else {
+        println!("there are differences");
+        ExitCode::FAILURE
+    }
+}
+
+fn print(text: &str) -> ExitCode {
+    match io::stdout().write_all(text.as_bytes()) {
+        Ok(()) => ExitCode::SUCCESS,
+        Err(error) => {
+            eprintln!("the output cannot be written: {error}");
+            ExitCode::FAILURE
+        }
+    }
+}

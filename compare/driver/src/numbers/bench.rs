@@ -1,0 +1,153 @@
+//! Nanoseconds per call, ours beside the Rust's, measured in turns so that both see the same
+//! machine.
+
+use super::inputs::of_field;
+use super::ours;
+use crate::family::pattern;
+use crate::value::Value;
+use sonalign::replaced;
+use std::hint::black_box;
+use std::ops::RangeInclusive;
+use std::time::Instant;
+
+/// Too many for branches to be learnt by heart, few enough to stay in the cache.
+const INPUTS: u64 = 1 << 14;
+const REPEATS: usize = 201;
+
+const HEAD: &str = "\
+| function | beside | latency, ours | Rust's | ratio | throughput, ours | Rust's | ratio |
+|---|---|---|---|---|---|---|---|
+";
+
+/// The table for docs/BENCHMARKS.md. A latency is that of a call whose input waits for the answer
+/// before; a throughput is that of calls that wait for nothing. Ours are calls over the C
+/// interface; Rust's may be inlined, as they are in its program.
+pub fn table() -> String {
+    let rows = [exact_rows(), replaced_rows()].concat().concat();
+    // Hidden from the compiler, so that the call stays.
+    let nothing: fn(f64) -> f64 = black_box(|x| x);
+    let [empty, _] = measure(&doubles(983..=1063), &nothing, &nothing);
+    let Times {
+        latency,
+        throughput,
+    } = empty;
+    format!(
+        "{HEAD}{rows}\nNanoseconds per call, medians of {REPEATS}. \
+         A call that does nothing: latency {latency:.1}, throughput {throughput:.1}.\n"
+    )
+}
+
+fn exact_rows() -> Vec<String> {
+    let positive: Vec<f64> = doubles(983..=1063).iter().map(|x| x.abs()).collect();
+    let whole = doubles(1019..=1063);
+    vec![
+        row("root", "`f64::sqrt`", &positive, ours::root, f64::sqrt),
+        row(
+            "narrow",
+            "`as f32`",
+            &doubles(923..=1123),
+            ours::narrow,
+            |x| x as f32,
+        ),
+        row("round", "`f64::round`", &whole, ours::round, f64::round),
+        row("floor", "`f64::floor`", &whole, ours::floor, f64::floor),
+        row("ceil", "`f64::ceil`", &whole, ours::ceil, f64::ceil),
+    ]
+}
+
+fn replaced_rows() -> Vec<String> {
+    let positive: Vec<f64> = doubles(983..=1063).iter().map(|x| x.abs()).collect();
+    let powers = doubles(1017..=1028);
+    let to = "`replaced`";
+    vec![
+        row("exp (E)", to, &powers, ours::exp, replaced::exp),
+        row("ten_to", to, &powers, ours::ten_to, replaced::ten_to),
+        row("ln (L)", to, &positive, ours::ln, replaced::ln),
+        row("ln_1p", to, &floats(), ours::ln_1p, replaced::ln_1p),
+        row("log10", to, &positive, ours::log10, replaced::log10),
+    ]
+}
+
+fn doubles(fields: RangeInclusive<u64>) -> Vec<f64> {
+    (0..INPUTS).map(|n| of_field(n, &fields)).collect()
+}
+
+/// From 2^-10 to 2^6, so on either side of 0.375.
+fn floats() -> Vec<f32> {
+    let bits = |n| (117 << 23) + (pattern(n) >> 32) as u32 % (16 << 23);
+    (0..INPUTS).map(|n| f32::from_bits(bits(n))).collect()
+}
+
+fn row<A: Value, B: Value>(
+    name: &str,
+    beside: &str,
+    inputs: &[A],
+    ours: impl Fn(A) -> B,
+    theirs: impl Fn(A) -> B,
+) -> String {
+    let [ours, theirs] = measure(inputs, &ours, &theirs);
+    format!(
+        "| {name} | {beside} | {:.1} | {:.1} | {:.2} | {:.1} | {:.1} | {:.2} |\n",
+        ours.latency,
+        theirs.latency,
+        ours.latency / theirs.latency,
+        ours.throughput,
+        theirs.throughput,
+        ours.throughput / theirs.throughput,
+    )
+}
+
+#[derive(Clone, Copy)]
+struct Times {
+    latency: f64,
+    throughput: f64,
+}
+
+fn measure<A: Value, B: Value>(
+    inputs: &[A],
+    ours: &impl Fn(A) -> B,
+    theirs: &impl Fn(A) -> B,
+) -> [Times; 2] {
+    let mut taken = [const { Vec::new() }; 4];
+    for _ in 0..REPEATS {
+        taken[0].push(latency(inputs, ours));
+        taken[1].push(latency(inputs, theirs));
+        taken[2].push(throughput(inputs, ours));
+        taken[3].push(throughput(inputs, theirs));
+    }
+    let [a, b, c, d] = taken.map(median);
+    [(a, c), (b, d)].map(|(latency, throughput)| Times {
+        latency,
+        throughput,
+    })
+}
+
+/// Each input takes in the answer before it. No bit of that stays, but the compiler and the
+/// processor don't know.
+fn latency<A: Value, B: Value>(inputs: &[A], function: &impl Fn(A) -> B) -> f64 {
+    let none = black_box(0);
+    let mut link = 0;
+    let begun = Instant::now();
+    for x in inputs {
+        link = function(A::of_bits(x.bits() | link)).bits() & none;
+    }
+    black_box(link);
+    nanoseconds(begun, inputs.len())
+}
+
+fn throughput<A: Value, B: Value>(inputs: &[A], function: &impl Fn(A) -> B) -> f64 {
+    let begun = Instant::now();
+    for &x in inputs {
+        black_box(function(black_box(x)));
+    }
+    nanoseconds(begun, inputs.len())
+}
+
+fn nanoseconds(begun: Instant, calls: usize) -> f64 {
+    begun.elapsed().as_nanos() as f64 / calls as f64
+}
+
+fn median(mut times: Vec<f64>) -> f64 {
+    times.sort_by(f64::total_cmp);
+    times[times.len() / 2]
+}

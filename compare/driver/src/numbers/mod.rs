@@ -1,0 +1,10 @@
+//! The number functions, each by itself: sessions barely see them.
+
+pub mod bench;
+pub mod check;
+mod edges;
+mod inputs;
+pub mod list;
+mod ours;
+mod roots;
+pub mod samples;

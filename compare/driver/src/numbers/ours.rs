@@ -1,0 +1,32 @@
+//! The number functions of the port, as crates/exports hands them out.
+
+macro_rules! exported {
+    ($($name:ident = $symbol:ident($from:ty) -> $to:ty;)*) => {
+        // They are proved to be defined for every number: hence `safe`.
+        unsafe extern "C" {
+            $(safe fn $symbol(x: $from) -> $to;)*
+        }
+        $(
+            #[inline]
+            pub fn $name(x: $from) -> $to {
+                $symbol(x)
+            }
+        )*
+    };
+}
+
+exported! {
+    is_finite = numbers_is_finite(f64) -> bool;
+    is_finite_f32 = numbers_is_finite_f32(f32) -> bool;
+    widen = numbers_widen(f32) -> f64;
+    narrow = numbers_narrow(f64) -> f32;
+    round = numbers_round(f64) -> f64;
+    floor = numbers_floor(f64) -> f64;
+    ceil = numbers_ceil(f64) -> f64;
+    root = numbers_root(f64) -> f64;
+    exp = numbers_exp(f64) -> f64;
+    ten_to = numbers_ten_to(f64) -> f64;
+    ln = numbers_ln(f64) -> f64;
+    ln_1p = numbers_ln_1p(f32) -> f32;
+    log10 = numbers_log10(f64) -> f64;
+}

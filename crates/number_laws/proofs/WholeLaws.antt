@@ -1,0 +1,324 @@
+-- Rounding to whole, floor and ceiling give what specs/WholeLaws.antt says, for every finite f64. Assumes nothing.
+use mathlib.Core.Path.{_≡_, refl, sym, ap, _∙_, subst}
+use Prim.Native.Nat.{ℕ, zero, suc, _+_, _*_, _/_, _%_, _^_, _≤_, _<_}
+use native.Mathlib.Nat.{le-mul-of-pos-right, le-of-suc-le-suc, le-trans, le-of-eq, le-antisymm, lt-irrefl, lt-of-lt-of-le, lt-of-not-le, le-of-lt, mul-one, mul-assoc, mul-le-mul-right, mul-lt-mul-of-pos-right, mul-pos, zero-mul, zero-lt-suc, div-add-mod', mod-lt}
+use native.Mathlib.Omega.{arith}
+use mathlib.Core.Bool.{Bool, true, false, not, cond, _&&_, false≢true}
+use lib.IntN.{ℤ, pos, negsuc}
+use lib.Dec.{T, lit<, eqb·suc-zero, ltb, eqb, leb, ltb→lt}
+use lib.Pow.{pow-add, pow-pos}
+use lib.Ieee.{Float, nan, inf, fin, binary64, up, down, round, fits, le, ofBits}
+use lib.Ieee.Fits.{down-pos, round-fits, and-l, and-r}
+use lib.Ieee.Exact.{HasValue, round-exact}
+use lib.Ieee.Back.{round-whole, whole-unique}
+use lib.Ieee.Order.{transfer, le-of-values}
+use Rattle.numbers.specs.Whole.{halfUp, upward, wholeNearest, wholeBelow, wholeAbove}
+use Rattle.number_laws.specs.WholeLaws.{Nearest, Cut, Raised, RoundsTo, FloorsTo, CeilsTo, GivesWhole, KeepsWhole, KeepsZero, Monotone, LargestBelow, SmallestAbove, MinusZero}
+use Rattle.number_laws.proofs.Signed.{P, N, Is, sided, round-sided, signed-mono, le→below, below→le}
+
+-- ---- n less than one from a / c
+abbrev Close : ℕ → ℕ → ℕ → Type 0
+Close a c n = (n * c < a + c) × (a < n * c + c)
+
+one-pos : 0 < 1
+one-pos = zero-lt-suc 0
+
+-- ---- what fitting says
+small : (s : Bool) (m : ℕ) (e : ℤ) → T (fits binary64 (fin s m e)) → m < 2 ^ 53
+unfolding fits
+small s zero e h = lit< tt
+small s (suc m) e h =
+    let a = eqb (suc m % 2) 1 in
+    let b = ltb (suc m) (2 ^ 53) in
+    let c = leb (down e) (2 ^ 1074) in
+    ltb→lt (suc m) (2 ^ 53) (and-r a b (and-l (a && b) c (and-l (a && b && c) (ltb (suc m * up e) (2 ^ 1024 * down e)) h)))
+
+under : (s : Bool) (m : ℕ) (e : ℤ) → T (fits binary64 (fin s m e)) → m * up e < 2 ^ 1024 * down e
+unfolding fits
+under s zero e h = subst (λ (z : ℕ). z < 2 ^ 1024 * down e) (sym (zero-mul (up e))) (mul-pos (pow-pos 1024) (down-pos e))
+under s (suc m) e h = ltb→lt (suc m * up e) (2 ^ 1024 * down e) (and-r (eqb (suc m % 2) 1 && ltb (suc m) (2 ^ 53) && leb (down e) (2 ^ 1074)) (ltb (suc m * up e) (2 ^ 1024 * down e)) h)
+
+-- ---- such an n is an f64
+exact : (s : Bool) (m : ℕ) (e : ℤ) (n : ℕ) → T (fits binary64 (fin s m e)) → Close (m * up e) (down e) n → HasValue (round binary64 s n 1) s n 1
+exact s m (pos k) n F h = subst (λ (z : ℕ). HasValue (round binary64 s z 1) s z 1) (same (m * 2 ^ k) n (h .0) (h .1)) own
+  where
+    same : (a n : ℕ) → n * 1 < a + 1 → a < n * 1 + 1 → a ≡ n
+    same a n g l = omega arith
+
+    shifted : m * 2 ^ k * 2 ^ 1074 ≡ m * 2 ^ (k + 1074)
+    shifted = mul-assoc m (2 ^ k) (2 ^ 1074) ∙ ap (λ (z : ℕ). m * z) (sym (pow-add 2 k 1074))
+
+    room : m * 2 ^ (k + 1074) < 2 ^ (1074 + 1024)
+    room = subst (λ (z : ℕ). z < 2 ^ (1074 + 1024)) shifted (subst (λ (z : ℕ). m * 2 ^ k * 2 ^ 1074 < z) (sym (pow-add 2 1024 1074)) (mul-lt-mul-of-pos-right (subst (λ (z : ℕ). m * 2 ^ k < z) (mul-one (2 ^ 1024)) (under s m (pos k) F)) (pow-pos 1074)))
+
+    own : HasValue (round binary64 s (m * 2 ^ k) 1) s (m * 2 ^ k) 1
+    own = round-exact binary64 s (m * 2 ^ k) 1 m (k + 1074) one-pos (small s m (pos k) F) room (shifted ∙ sym (mul-one (m * 2 ^ (k + 1074))))
+exact s m (negsuc k) n F h = round-whole binary64 s n (le-trans (less n m (2 ^ suc k) (pow-pos (suc k)) (h .0)) (le-of-lt (small s m (negsuc k) F)))
+  where
+    less : (n m c : ℕ) → 0 < c → n * c < m * 1 + c → n ≤ m
+    less zero m c C g = omega arith
+    less (suc n) m c C g =
+        let l : n ≤ n * c = le-mul-of-pos-right n C in
+        omega arith
+
+-- ---- halfUp, / and upward keep to their rules
+nearest-is : (a c : ℕ) → 0 < c → Nearest a c (halfUp a c)
+nearest-is a c C =
+    let q = halfUp a c in
+    let r = (2 * a + c) % (2 * c) in
+    let e : q * (2 * c) + r ≡ 2 * a + c = div-add-mod' (2 * a + c) (2 * c) in
+    let l : r < 2 * c = mod-lt (2 * a + c) (mul-pos (zero-lt-suc 1) C) in
+    omega arith
+
+cut-is : (a c : ℕ) → 0 < c → Cut a c (a / c)
+cut-is a c C =
+    let e = div-add-mod' a c in
+    let l = mod-lt a C in
+    omega arith
+
+raised-is : (a c : ℕ) → 0 < c → Raised a c (upward a c)
+raised-is a c C = go (a % c) (div-add-mod' a c) (mod-lt a C)
+  where
+    go : (r : ℕ) → a / c * c + r ≡ a → r < c → Raised a c (cond (eqb r 0) (a / c) (suc (a / c)))
+    go zero e l = omega arith
+    go (suc r) e l = subst (λ (b : Bool). Raised a c (cond b (a / c) (suc (a / c)))) (sym (eqb·suc-zero r)) (omega arith)
+
+-- ---- a larger fraction has no smaller whole number
+pub record Rule (rule : Bool → ℕ → ℕ → ℕ → Type 0) : Type 0 where
+  pub close : (s : Bool) (a c n : ℕ) → 0 < c → rule s a c n → Close a c n
+  pub grows : (s : Bool) (a c n b d k : ℕ) → 0 < c → 0 < d → rule s a c n → rule s b d k → a * d ≤ b * c → n ≤ k
+
+apart-left : (a b c d p q : ℕ) → 0 < c → p ≤ a → b < q → p * d ≡ q * c → a * d ≤ b * c → ⊥
+apart-left a b c d p q C h k e l = lt-irrefl (b * c) (lt-of-lt-of-le (mul-lt-mul-of-pos-right k C) (le-trans (le-of-eq (sym e)) (le-trans (mul-le-mul-right d h) l)))
+
+apart-right : (a b c d p q : ℕ) → 0 < d → p < a → b ≤ q → p * d ≡ q * c → a * d ≤ b * c → ⊥
+apart-right a b c d p q D h k e l = lt-irrefl (p * d) (lt-of-lt-of-le (mul-lt-mul-of-pos-right h D) (le-trans l (le-trans (mul-le-mul-right c k) (le-of-eq (sym e)))))
+
+not-more : (n k : ℕ) → (suc k ≤ n → ⊥) → n ≤ k
+not-more n k h = le-of-suc-le-suc (lt-of-not-le h)
+
+nearest-grows : (a c n b d k : ℕ) → 0 < c → 0 < d → Nearest a c n → Nearest b d k → a * d ≤ b * c → n ≤ k
+nearest-grows a c n b d k C D h g l = not-more n k (λ m.
+    let t : suc k * c ≤ n * c = mul-le-mul-right c m in
+    let h₀ = h .0 in
+    let g₁ = g .1 in
+    apart-left (2 * a) (2 * b) c d (2 * (k * c) + c) (2 * (k * d) + d) C (omega arith) (omega arith) (omega arith) (omega arith))
+
+cut-grows : (a c n b d k : ℕ) → 0 < c → 0 < d → Cut a c n → Cut b d k → a * d ≤ b * c → n ≤ k
+cut-grows a c n b d k C D h g l = not-more n k (λ m.
+    let t : suc k * c ≤ n * c = mul-le-mul-right c m in
+    apart-left a b c d (k * c + c) (k * d + d) C (omega arith) (omega arith) (omega arith) l)
+
+raised-grows : (a c n b d k : ℕ) → 0 < c → 0 < d → Raised a c n → Raised b d k → a * d ≤ b * c → n ≤ k
+raised-grows a c n b d k C D h g l = not-more n k (λ m.
+    let t : suc k * c ≤ n * c = mul-le-mul-right c m in
+    apart-right a b c d (k * c) (k * d) D (omega arith) (omega arith) (omega arith) l)
+
+rounds-rule : Rule RoundsTo
+rounds-rule = record { close = λ s a c n C h. omega arith; grows = λ s. nearest-grows }
+
+floors-rule : Rule FloorsTo
+floors-rule = record { close = close; grows = grows }
+  where
+    close : (s : Bool) (a c n : ℕ) → 0 < c → FloorsTo s a c n → Close a c n
+    close true a c n C h = omega arith
+    close false a c n C h = omega arith
+
+    grows : (s : Bool) (a c n b d k : ℕ) → 0 < c → 0 < d → FloorsTo s a c n → FloorsTo s b d k → a * d ≤ b * c → n ≤ k
+    grows true = raised-grows
+    grows false = cut-grows
+
+ceils-rule : Rule CeilsTo
+ceils-rule = record { close = λ s. floors-rule .close (not s); grows = λ s. floors-rule .grows (not s) }
+
+-- ---- a function that rounds by a rule: it picks the number of `pick`, and gives an infinity back
+pub record Rounder (rule : Bool → ℕ → ℕ → ℕ → Type 0) (f : Float → Float) : Type 0 where
+  pub lawful : Rule rule
+  pub pick : Bool → ℕ → ℕ → ℕ
+  pub picks : (s : Bool) (a c : ℕ) → 0 < c → rule s a c (pick s a c)
+  pub at-finite : (s : Bool) (m : ℕ) (e : ℤ) → f (fin s m e) ≡ round binary64 s (pick s (m * up e) (down e)) 1
+  pub at-infinite : (s : Bool) → f (inf s) ≡ inf s
+
+-- ---- the order of what is rounded
+is-own : (s : Bool) (n : ℕ) → Is s n (P s n) (N s n)
+is-own true n = omega arith
+is-own false n = omega arith
+
+round-ordered : (s t : Bool) (n k : ℕ) → P s n + N t k ≤ P t k + N s n → T (le (round binary64 s n 1) (round binary64 t k 1))
+round-ordered s t n k h = signed-mono binary64 s n (P s n) (N s n) 1 t k (P t k) (N t k) 1 one-pos one-pos (is-own s n) (is-own t k) (omega arith)
+
+lowest : (s : Bool) (x : Float) → T (sided s x) → T (le (inf true) x)
+unfolding le
+lowest s nan h = absurd h
+lowest s (inf true) h = tt
+lowest s (inf false) h = tt
+lowest s (fin t m e) h = tt
+
+highest : (s : Bool) (x : Float) → T (sided s x) → T (le x (inf false))
+unfolding le
+highest s nan h = absurd h
+highest s (inf true) h = tt
+highest s (inf false) h = tt
+highest s (fin t m e) h = tt
+
+-- no whole number is beside 0 / c but 0
+none : (a c n d : ℕ) → 0 < d → a * d ≡ 0 → Close a c n → n ≡ 0
+none zero c zero d D e h = refl
+none zero c (suc n) d D e h = absurd (lt-irrefl 0 (omega arith))
+none (suc a) c n d D e h = absurd (lt-irrefl 0 (omega arith))
+
+module _ (rule : Bool → ℕ → ℕ → ℕ → Type 0) (f : Float → Float) (r : Rounder rule f) where
+  abbrev at : Bool → ℕ → ℤ → ℕ
+  at s m e = r .pick s (m * up e) (down e)
+
+  near-at : (s : Bool) (m : ℕ) (e : ℤ) → rule s (m * up e) (down e) (at s m e)
+  near-at s m e = r .picks s (m * up e) (down e) (down-pos e)
+
+  close-at : (s : Bool) (m : ℕ) (e : ℤ) → Close (m * up e) (down e) (at s m e)
+  close-at s m e = r .lawful .close s (m * up e) (down e) (at s m e) (down-pos e) (near-at s m e)
+
+  pub gives-whole : GivesWhole rule f
+  gives-whole s m e F = rw (r .at-finite s m e) (record { n = at s m e; value = exact s m e (at s m e) F (close-at s m e); held = round-fits binary64 s (at s m e) 1; near = near-at s m e })
+
+  ordered : (s : Bool) (m : ℕ) (e : ℤ) (t : Bool) (n : ℕ) (d : ℤ) → P s (m * up e) * down d + N t (n * up d) * down e ≤ P t (n * up d) * down e + N s (m * up e) * down d → P s (at s m e) + N t (at t n d) ≤ P t (at t n d) + N s (at s m e)
+  ordered false m e false n d h = let l = r .lawful .grows false (m * up e) (down e) (at false m e) (n * up d) (down d) (at false n d) (down-pos e) (down-pos d) (near-at false m e) (near-at false n d) (omega arith) in omega arith
+  ordered true m e true n d h = let l = r .lawful .grows true (n * up d) (down d) (at true n d) (m * up e) (down e) (at true m e) (down-pos d) (down-pos e) (near-at true n d) (near-at true m e) (omega arith) in omega arith
+  ordered true m e false n d h = omega arith
+  ordered false m e true n d h =
+      let p = none (m * up e) (down e) (at false m e) (down d) (down-pos d) (omega arith) (close-at false m e) in
+      let q = none (n * up d) (down d) (at true n d) (down e) (down-pos e) (omega arith) (close-at true n d) in
+      omega arith
+
+  pub monotone : Monotone f
+  monotone nan y h = absurd (unfold le in h)
+  monotone (inf s) nan h = absurd (unfold le in h)
+  monotone (inf s) (inf t) h = rw (r .at-infinite s, r .at-infinite t) h
+  monotone (inf true) (fin t n d) h = rw (r .at-infinite true, r .at-finite t n d) (lowest t (round binary64 t (at t n d) 1) (round-sided binary64 t (at t n d) 1))
+  monotone (inf false) (fin t n d) h = absurd (unfold le in h)
+  monotone (fin s m e) nan h = absurd (unfold le in h)
+  monotone (fin s m e) (inf true) h = absurd (unfold le in h)
+  monotone (fin s m e) (inf false) h = rw (r .at-infinite false, r .at-finite s m e) (highest s (round binary64 s (at s m e) 1) (round-sided binary64 s (at s m e) 1))
+  monotone (fin s m e) (fin t n d) h = rw (r .at-finite s m e, r .at-finite t n d) (round-ordered s t (at s m e) (at t n d) (ordered s m e t n d (le→below (fin s m e) (fin t n d) tt tt h)))
+
+  pub keeps-whole : KeepsWhole f
+  keeps-whole nan s n F v = absurd v
+  keeps-whole (inf t) s n F v = absurd v
+  keeps-whole (fin t m e) s n F v =
+      let k = at t m e in
+      let own : m * up e * 1 ≡ k * down e = v .1 ∙ ap (λ (z : ℕ). z * down e) (same n k (m * up e) (down e) (v .1) (close-at t m e)) in
+      r .at-finite t m e ∙ whole-unique binary64 (round binary64 t k 1) (fin t m e) t k (round-fits binary64 t k 1) F (exact t m e k F (close-at t m e)) (refl, own)
+    where
+      same : (n k a c : ℕ) → a * 1 ≡ n * c → Close a c k → n ≡ k
+      same n k a c u h = le-antisymm (less n k c (omega arith)) (less k n c (omega arith))
+        where
+          less : (x y c : ℕ) → x * c < y * c + c → x ≤ y
+          less x y c l = not-more x y (λ g. let z : suc y * c ≤ x * c = mul-le-mul-right c g in lt-irrefl 0 (omega arith))
+
+  pub keeps-zero : KeepsZero f
+  keeps-zero s = keeps-whole (fin s 0 (pos 0)) s 0 (unfold fits in tt) (refl, refl)
+
+-- ---- values of one sign, in order
+in-order : (s : Bool) (x y : Float) (a c b d : ℕ) → 0 < c → 0 < d → HasValue x s a c → HasValue y s b d → P s a * d + N s b * c ≤ P s b * c + N s a * d → T (le x y)
+in-order false x y a c b d C D h k l = le-of-values x y a c b d C D h k (omega arith)
+in-order true nan y a c b d C D h k l = absurd h
+in-order true (inf t) y a c b d C D h k l = absurd h
+in-order true (fin t m e) nan a c b d C D h k l = absurd k
+in-order true (fin t m e) (inf u) a c b d C D h k l = absurd k
+in-order true (fin false m e) (fin u n g) a c b d C D h k l = absurd (false≢true (h .0))
+in-order true (fin true m e) (fin false n g) a c b d C D h k l = absurd (false≢true (k .0))
+in-order true (fin true m e) (fin true n g) a c b d C D h k l =
+    let z = transfer (n * up g) (m * up e) (down g) (down e) b a d c D C (k .1) (h .1) (omega arith) in
+    below→le (fin true m e) (fin true n g) tt tt (omega arith)
+
+own-value : (s : Bool) (m : ℕ) (e : ℤ) → HasValue (fin s m e) s (m * up e) (down e)
+own-value s m e = (refl, refl)
+
+-- ---- the three
+rounds : Rounder RoundsTo wholeNearest
+unfolding wholeNearest
+rounds = record { lawful = rounds-rule; pick = λ s. halfUp; picks = λ s. nearest-is; at-finite = λ s m e. refl; at-infinite = λ s. refl }
+
+floors : Rounder FloorsTo wholeBelow
+unfolding wholeBelow
+floors = record { lawful = floors-rule; pick = λ s a c. cond s (upward a c) (a / c); picks = picks; at-finite = λ s m e. refl; at-infinite = λ s. refl }
+  where
+    picks : (s : Bool) (a c : ℕ) → 0 < c → FloorsTo s a c (cond s (upward a c) (a / c))
+    picks true = raised-is
+    picks false = cut-is
+
+ceils : Rounder CeilsTo wholeAbove
+unfolding wholeAbove
+ceils = record { lawful = ceils-rule; pick = λ s a c. cond s (a / c) (upward a c); picks = picks; at-finite = λ s m e. refl; at-infinite = λ s. refl }
+  where
+    picks : (s : Bool) (a c : ℕ) → 0 < c → CeilsTo s a c (cond s (a / c) (upward a c))
+    picks true = cut-is
+    picks false = raised-is
+
+-- rounding to whole, a half away from zero
+pub nearest-whole : GivesWhole RoundsTo wholeNearest
+nearest-whole = gives-whole RoundsTo wholeNearest rounds
+
+pub nearest-keeps-whole : KeepsWhole wholeNearest
+nearest-keeps-whole = keeps-whole RoundsTo wholeNearest rounds
+
+pub nearest-keeps-zero : KeepsZero wholeNearest
+nearest-keeps-zero = keeps-zero RoundsTo wholeNearest rounds
+
+pub nearest-mono : Monotone wholeNearest
+nearest-mono = monotone RoundsTo wholeNearest rounds
+
+-- floor
+pub below-whole : GivesWhole FloorsTo wholeBelow
+below-whole = gives-whole FloorsTo wholeBelow floors
+
+pub below-keeps-whole : KeepsWhole wholeBelow
+below-keeps-whole = keeps-whole FloorsTo wholeBelow floors
+
+pub below-keeps-zero : KeepsZero wholeBelow
+below-keeps-zero = keeps-zero FloorsTo wholeBelow floors
+
+pub below-mono : Monotone wholeBelow
+below-mono = monotone FloorsTo wholeBelow floors
+
+-- ceiling
+pub above-whole : GivesWhole CeilsTo wholeAbove
+above-whole = gives-whole CeilsTo wholeAbove ceils
+
+pub above-keeps-whole : KeepsWhole wholeAbove
+above-keeps-whole = keeps-whole CeilsTo wholeAbove ceils
+
+pub above-keeps-zero : KeepsZero wholeAbove
+above-keeps-zero = keeps-zero CeilsTo wholeAbove ceils
+
+pub above-mono : Monotone wholeAbove
+above-mono = monotone CeilsTo wholeAbove ceils
+
+-- floor and ceiling by the order
+pub below-largest : (s : Bool) (m : ℕ) (e : ℤ) → T (fits binary64 (fin s m e)) → LargestBelow (fin s m e) (wholeBelow (fin s m e))
+below-largest s m e F =
+    let w = below-whole s m e F in
+    record {
+      below = in-order s (wholeBelow (fin s m e)) (fin s m e) (w .n) 1 (m * up e) (down e) one-pos (down-pos e) (w .value) (own-value s m e) (side s (w .n) (m * up e) (down e) (w .near));
+      largest = λ y t k G v h. subst (λ (z : Float). T (le z (wholeBelow (fin s m e)))) (below-keeps-whole y t k G v) (below-mono y (fin s m e) h);
+    }
+  where
+    side : (s : Bool) (n a c : ℕ) → FloorsTo s a c n → P s n * c + N s a * 1 ≤ P s a * 1 + N s n * c
+    side true n a c h = omega arith
+    side false n a c h = omega arith
+
+pub above-smallest : (s : Bool) (m : ℕ) (e : ℤ) → T (fits binary64 (fin s m e)) → SmallestAbove (fin s m e) (wholeAbove (fin s m e))
+above-smallest s m e F =
+    let w = above-whole s m e F in
+    record {
+      above = in-order s (fin s m e) (wholeAbove (fin s m e)) (m * up e) (down e) (w .n) 1 (down-pos e) one-pos (own-value s m e) (w .value) (side s (w .n) (m * up e) (down e) (w .near));
+      smallest = λ y t k G v h. subst (λ (z : Float). T (le (wholeAbove (fin s m e)) z)) (above-keeps-whole y t k G v) (above-mono (fin s m e) y h);
+    }
+  where
+    side : (s : Bool) (n a c : ℕ) → CeilsTo s a c n → P s a * 1 + N s n * c ≤ P s n * c + N s a * 1
+    side true n a c h = omega arith
+    side false n a c h = omega arith
+
+-- -0.4 rounds to -0.0, and so does its ceiling
+pub minus-zero : MinusZero
+unfolding wholeNearest wholeAbove round ofBits
+minus-zero = (refl, refl)
