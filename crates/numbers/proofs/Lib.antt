@@ -1,2 +1,3 @@
 -- What the proofs of several modules use.
 pub mod Encode
+pub mod Value

@@ -1,2 +1,3 @@
--- What the proofs of `dropped` and `narrow_bits` use.
+-- What the proofs of `dropped`, `any_bits` and `narrow_bits` share.
 mod Drop
+mod Patterns

@@ -26,8 +26,22 @@ pub fn narrow(x: f64) -> f32
     0.0 / 0.0
 }
 
-// The bit pattern of the f32 nearest to ±sig * 2 ^ (exp - 1074).
+// The bit pattern of the f32 nearest to ±sig * 2 ^ (exp - 1074). A normal f64 whose f32 is normal
+// too leaves off 29 digits: that case, nearly all, goes first.
 fn narrow_bits(minus: bool, sig: u64, exp: u64) -> u64
+    requires { ⌜ sig < 2 ^ 53 ⌝ ∗ ⌜ exp ≤ 2045 ⌝ ∗ ⌜ (0 < exp → 2 ^ 52 ≤ sig) ⌝ }
+    ensures { λ r. ⌜ r ≡ toBits binary32 (round binary32 minus (sig * 2 ^ exp) (2 ^ 1074)) ⌝ }
+{
+    if exp >= 896 {
+        if exp < 1150 {
+            return sign_bit(minus) + ((exp - 896) * 0x80_0000 + nearest(sig, 29));
+        }
+    }
+    any_bits(minus, sig, exp)
+}
+
+// The same of all: subnormal results, zero and infinity too.
+fn any_bits(minus: bool, sig: u64, exp: u64) -> u64
     requires { ⌜ sig < 2 ^ 53 ⌝ ∗ ⌜ exp ≤ 2045 ⌝ ∗ ⌜ (0 < exp → 2 ^ 52 ≤ sig) ⌝ }
     ensures { λ r. ⌜ r ≡ toBits binary32 (round binary32 minus (sig * 2 ^ exp) (2 ^ 1074)) ⌝ }
 {

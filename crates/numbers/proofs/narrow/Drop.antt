@@ -109,6 +109,27 @@ module _ (sig exp : ℕ) (S : sig < 2 ^ 53) (E : exp ≤ 2045) (F : 0 < exp → 
   pub under-code : exp + (64 - leadingZeros 64 sig) ≤ 949 → Dropped sig exp 0
   under-code h = under (subst (λ (m : ℕ). exp + m ≤ 949) digits h)
 
+-- a significand of 53 digits, and a normal result
+pub normal : (sig exp : ℕ) → sig < 2 ^ 53 → 2 ^ 52 ≤ sig → 896 ≤ exp → exp ≤ 2045 → Dropped sig exp (exp - 896)
+normal sig exp S F h E = record {
+  below = lt-of-lt-of-le (shift-lt sig 53 exp 149 S) (le-of-eq (ap (λ (x : ℕ). 2 ^ x) (top exp h) ∙ pow-add 2 (24 + (exp - 896)) 1074));
+  least = inr (le-trans (le-of-eq (sym (pow-add 2 (23 + (exp - 896)) 1074) ∙ ap (λ (x : ℕ). 2 ^ x) (bottom exp h))) (shift-ge sig 52 exp 149 F));
+  gap = gapped exp h;
+  small = less exp E;
+}
+  where
+    top : (e : ℕ) → 896 ≤ e → 53 + e + 149 ≡ 24 + (e - 896) + 1074
+    top e a = omega arith
+
+    bottom : (e : ℕ) → 896 ≤ e → 23 + (e - 896) + 1074 ≡ 52 + e + 149
+    bottom e a = omega arith
+
+    gapped : (e : ℕ) → 896 ≤ e → e + 29 ≤ 925 + (e - 896)
+    gapped e a = omega arith
+
+    less : (e : ℕ) → e ≤ 2045 → e - 896 ≤ 2045
+    less e a = omega arith
+
 -- what is kept
 line : (s a b g p r : ℕ) → a + b + g ≡ p + r → s * 2 ^ a * 2 ^ b * 2 ^ g ≡ s * (2 ^ p * 2 ^ r)
 line s a b g p r e =

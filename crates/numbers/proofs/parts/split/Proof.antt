@@ -8,7 +8,7 @@ use lib.Dec.{T}
 use lib.Ieee.{Float, binary64, fits, toBits}
 use lib.Ieee.Exact.{HasValue}
 use borrow.Author.Needs.{needs}
-use Rattle.numbers.proofs.parts.Value.{finite-no-nan, field-under, value-low, value-high}
+use Rattle.numbers.proofs.Value.{finite-no-nan, field-under, value-low, value-high}
 use Rattle.numbers.proofs.parts.split.Statement.{statement}
 use Rattle.numbers.proofs.parts.split.Tie as tie
 use Rattle.numbers.proofs.parts.split.Reads as reads

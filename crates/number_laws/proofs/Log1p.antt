@@ -1,0 +1,107 @@
+-- `ln_1p` of an f32 that is finite and not negative: finite, not negative, at most 91. Assumes nothing.
+use mathlib.Core.Path.{refl}
+use Prim.Native.Nat.{ℕ, zero, suc, _+_, _*_, _%_, _^_, _≤_}
+use native.Mathlib.Nat.{le-of-lt, zero-mul, one-mul}
+use native.Mathlib.Omega.{arith}
+use mathlib.Core.Bool.{Bool, true, false, cond, _&&_}
+use lib.IntN.{ℤ, pos, negsuc}
+use lib.Dec.{T, ltb, leb, eqb, ltb→lt, not-T}
+use lib.Ieee.{Float, nan, inf, fin, binary32, binary64, up, down, add, mul, div, neg, le, ofBits, ofInt, fits, round}
+use lib.Ieee.Fits.{add-fits, and-r}
+use lib.Ieee.Scale.{finite}
+use Rattle.numbers.specs.Arithmetic.{_⊕_, _⊘_, zero⁺, one, two}
+use Rattle.numbers.specs.Narrow.{nearestF32}
+use Rattle.numbers.specs.Logarithm.{smallestNormal, seriesMost, logSeries, logTwice, logOf, log1pWide, log1pOf}
+use Rattle.number_laws.specs.LogLaws.{Normal, Log1pFinite, Log1pZeros}
+use Rattle.number_laws.proofs.Signed.{P, N, below→le, le-trans-all}
+use Rattle.number_laws.proofs.Apart.{magnitude}
+use Rattle.number_laws.proofs.Bounded.{AtMost, NotNegative, Between, between-is-finite, at-most-of, at-most-high, at-most-finite, div-at-most, div-not-negative, add-between, magnitude-above, positive-above, nearest-mono, nearest-fits, not-le→lt}
+use Rattle.number_laws.proofs.LogSeries.{quarter, fiveEighths, twice-at-most, twice-finite, twice-not-negative}
+use Rattle.number_laws.proofs.LogLaws.{log-not-negative, log-most}
+
+-- ---- a finite f32 is below 2^128
+abbrev beyond : Float
+beyond = fin false 1 (pos 128)
+
+magnitude-most : (s : Bool) (m : ℕ) (e : ℤ) → T (fits binary32 (fin s m e)) → m * up e ≤ 2 ^ 128 * down e
+unfolding fits
+magnitude-most s zero e F = rw (zero-mul (up e)) (nothing (2 ^ 128 * down e))
+  where
+    nothing : (n : ℕ) → 0 ≤ n
+    nothing n = omega arith
+magnitude-most s (suc m) e F = le-of-lt (ltb→lt (suc m * up e) (2 ^ 128 * down e) (and-r (eqb (suc m % 2) 1 && ltb (suc m) (2 ^ 24) && leb (down e) (2 ^ 149)) (ltb (suc m * up e) (2 ^ 128 * down e)) F))
+
+pub f32-most : (w : Float) → T (fits binary32 w) → T (finite w) → T (le w beyond)
+f32-most nan F W = absurd W
+f32-most (inf s) F W = absurd W
+f32-most (fin s m e) F W = below→le (fin s m e) beyond tt tt (signed s (m * up e) (2 ^ 128) (down e) (magnitude-most s m e F))
+  where
+    signed : (s : Bool) (a b d : ℕ) → a ≤ b * d → P s a * 1 + 0 * d ≤ 1 * b * d + N s a * 1
+    signed true a b d h = rw (one-mul b, zero-mul d) (omega arith)
+    signed false a b d h = rw (one-mul b, zero-mul d) (omega arith)
+
+-- ---- 1 + w
+module _ (w : Float) (F : T (fits binary32 w)) (W : T (finite w)) (p : NotNegative w) where
+  w-between : Between zero⁺ beyond w
+  w-between = record { from = p; to = f32-most w F W }
+
+  one-more : Between one beyond (one ⊕ w)
+  one-more = unfold add in add-between binary64 one one zero⁺ beyond one w tt tt tt tt (record { from = unfold le in tt; to = unfold le in tt }) w-between
+
+  one-more-normal : Normal (one ⊕ w)
+  one-more-normal = record { held = add-fits binary64 one w; finite-is = between-is-finite one beyond (one ⊕ w) tt tt one-more; least = le-trans-all smallestNormal one (one ⊕ w) (unfold ofBits le in tt) (one-more .from) }
+
+  -- ---- s = w / (2 + w), up to w = 0.375
+  module _ (h : T (le w seriesMost)) where
+    base-between : Between two (two ⊕ beyond) (two ⊕ w)
+    base-between = unfold add in add-between binary64 two two zero⁺ beyond two w tt tt tt tt (record { from = unfold le in tt; to = unfold le in tt }) w-between
+
+    base-finite : T (finite (two ⊕ w))
+    base-finite = between-is-finite two (two ⊕ beyond) (two ⊕ w) tt (unfold add in tt) base-between
+
+    w-at-most : AtMost (fin false 3 (negsuc 2)) w
+    unfolding ofBits
+    w-at-most = at-most-of (fin false 3 (negsuc 2)) w W (le-trans-all (neg (fin false 3 (negsuc 2))) zero⁺ w (unfold neg le in tt) p) h
+
+    ratio-at-most : AtMost quarter (w ⊘ (two ⊕ w))
+    ratio-at-most =
+        le-trans-all (magnitude (w ⊘ (two ⊕ w))) (fin false 3 (negsuc 2) ⊘ two) quarter
+        (div-at-most binary64 w (two ⊕ w) 3 (negsuc 2) 1 (pos 1) (omega arith) W base-finite w-at-most (le-trans-all two (two ⊕ w) (magnitude (two ⊕ w)) (base-between .from) (magnitude-above (two ⊕ w) base-finite)))
+        (unfold div le in tt)
+
+    series-between : Between zero⁺ (fin false 91 (pos 0)) (logTwice (w ⊘ (two ⊕ w)))
+    series-between =
+        let s = w ⊘ (two ⊕ w) in
+        let S = at-most-finite quarter s tt ratio-at-most in
+        record {
+          from = twice-not-negative s S ratio-at-most (div-not-negative binary64 w (two ⊕ w) W (positive-above two (two ⊕ w) tt base-finite (base-between .from)) p);
+          to = le-trans-all (logTwice s) fiveEighths (fin false 91 (pos 0)) (at-most-high fiveEighths (logTwice s) (twice-finite s S ratio-at-most) (twice-at-most s S ratio-at-most)) (unfold le in tt);
+        }
+
+  -- ---- either way
+  wide-between : Between zero⁺ (fin false 91 (pos 0)) (log1pWide w)
+  wide-between = go (le w seriesMost) series-between
+    where
+      go : (b : Bool) → (T b → Between zero⁺ (fin false 91 (pos 0)) (logTwice (w ⊘ (two ⊕ w)))) → Between zero⁺ (fin false 91 (pos 0)) (cond b (logTwice (w ⊘ (two ⊕ w))) (logOf (one ⊕ w)))
+      go true h = h tt
+      go false h = record { from = log-not-negative (one ⊕ w) one-more-normal (one-more .from); to = log-most (one ⊕ w) one-more-normal (one-more .to) }
+
+  narrow-between : Between zero⁺ (fin false 91 (pos 0)) (log1pOf w)
+  unfolding log1pOf nearestF32 round
+  narrow-between = record { from = nearest-mono zero⁺ (log1pWide w) (wide-between .from); to = nearest-mono (log1pWide w) (fin false 91 (pos 0)) (wide-between .to) }
+
+pub log1p-finite : Log1pFinite
+log1p-finite w F W p =
+    let b = narrow-between w F W p in
+    let L = between-is-finite zero⁺ (fin false 91 (pos 0)) (log1pOf w) tt tt b in
+    record {
+      held = unfold log1pOf in nearest-fits (log1pWide w);
+      finite-is = L;
+      not-negative = b .from;
+      most = b .to;
+      below = not-le→lt (log1pOf w) (fin false 1 (pos 9)) L tt (not-T (le (fin false 1 (pos 9)) (log1pOf w)) (λ (l : T (le (fin false 1 (pos 9)) (log1pOf w))). unfold le in le-trans-all (fin false 1 (pos 9)) (log1pOf w) (fin false 91 (pos 0)) l (b .to)));
+    }
+
+pub log1p-zeros : Log1pZeros
+unfolding log1pOf nearestF32 logSeries ofInt ofBits le div add mul round
+log1p-zeros = record { plus-zero = refl; minus-zero = refl }

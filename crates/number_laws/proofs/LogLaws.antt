@@ -1,0 +1,214 @@
+-- L and `log10` of a positive normal v are finite and bounded; L is not negative from v = 1 on, and at most 91 up to v = 2^128. Assumes nothing.
+use mathlib.Core.Path.{_≡_, refl}
+use Prim.Native.Nat.{ℕ, _<_}
+use native.Mathlib.Omega.{arith}
+use mathlib.Core.Bool.{Bool, true, false, not, cond}
+use lib.IntN.{ℤ, pos, negsuc}
+use lib.Dec.{T}
+use lib.Ieee.{Float, nan, inf, fin, binary64, add, sub, mul, div, neg, lt, le, ofBits}
+use lib.Ieee.Bits.{is-true}
+use lib.Ieee.Scale.{finite}
+use Rattle.numbers.specs.Arithmetic.{_⊕_, _⊖_, _⊗_, _⊘_, zero⁺, one, two}
+use Rattle.numbers.specs.Exponential.{hi, lo, ln10}
+use Rattle.numbers.specs.Logarithm.{smallestNormal, sqrt2, half, mantissa, exponent, logTwice, logAt, logHalved, logOf, log10Of}
+use Rattle.number_laws.specs.LogLaws.{Normal, LogFinite, LogNotNegative, LogMost, Log10Finite, Log10Infinite}
+use Rattle.number_laws.proofs.Signed.{le-trans-all, sub-mono, sub-nonneg, add-mono, lt→le, not-lt→le, between-finite}
+use Rattle.number_laws.proofs.Apart.{magnitude}
+use Rattle.number_laws.proofs.Bounded.{AtMost, NotNegative, Between, wider, between-is-finite, between-of-at-most, at-most-of, at-most-low, at-most-high, at-most-finite, div-at-most, div-not-negative, add-between, mul-between-by, magnitude-above, positive-above}
+use Rattle.number_laws.proofs.Mantissa.{mantissa-range, exponent-range, exponent-from-one, exponent-to-128}
+use Rattle.number_laws.proofs.LogSeries.{quarter, fiveEighths, twice-at-most, twice-finite, twice-not-negative}
+
+-- ---- s = (m − 1) / (m + 1)
+abbrev ratio : Float → Float
+ratio m = (m ⊖ one) ⊘ (m ⊕ one)
+
+-- l ≤ m ≤ u, with l and u within b of 1 and l + 1 ≥ c, gives |s| ≤ b / c
+module _ (l u m : Float) (o : ℕ) (g : ℤ) (p : ℕ) (h : ℤ) (P : 0 < p) (L : T (finite l)) (U : T (finite u)) (m-in : Between l u m)
+    (low : T (le (fin true o g) (l ⊖ one))) (high : T (le (u ⊖ one) (fin false o g))) (base : T (le (fin false p h) (l ⊕ one))) (top : T (finite (u ⊕ one))) where
+  m-finite : T (finite m)
+  m-finite = between-is-finite l u m L U m-in
+
+  top-between : Between (fin true o g) (fin false o g) (m ⊖ one)
+  top-between = record {
+    from = le-trans-all (fin true o g) (l ⊖ one) (m ⊖ one) low (sub-mono binary64 l m one L m-finite tt (m-in .from));
+    to = le-trans-all (m ⊖ one) (u ⊖ one) (fin false o g) (sub-mono binary64 m u one m-finite U tt (m-in .to)) high;
+  }
+
+  base-between : Between (fin false p h) (u ⊕ one) (m ⊕ one)
+  base-between = record {
+    from = le-trans-all (fin false p h) (l ⊕ one) (m ⊕ one) base (add-mono binary64 l m one one L m-finite tt tt (m-in .from) (unfold le in tt));
+    to = add-mono binary64 m u one one m-finite U tt tt (m-in .to) (unfold le in tt);
+  }
+
+  base-finite : T (finite (m ⊕ one))
+  base-finite = between-is-finite (fin false p h) (u ⊕ one) (m ⊕ one) tt top base-between
+
+  ratio-at-most : AtMost (fin false o g ⊘ fin false p h) (ratio m)
+  ratio-at-most =
+      let M = between-is-finite (fin true o g) (fin false o g) (m ⊖ one) tt tt top-between in
+      div-at-most binary64 (m ⊖ one) (m ⊕ one) o g p h P M base-finite (at-most-of (fin false o g) (m ⊖ one) M (unfold neg in top-between .from) (top-between .to))
+      (le-trans-all (fin false p h) (m ⊕ one) (magnitude (m ⊕ one)) (base-between .from) (magnitude-above (m ⊕ one) base-finite))
+
+-- m from 1 to √2, and from √2 / 2 to 1
+plain-ratio : (m : Float) → Between one sqrt2 m → AtMost quarter (ratio m)
+unfolding ofBits sub add le div
+plain-ratio m b = ratio-at-most one sqrt2 m 1 (negsuc 0) 1 (pos 1) (omega arith) tt tt b tt tt tt tt
+
+halved-ratio : (m : Float) → Between (sqrt2 ⊗ half) one m → AtMost quarter (ratio m)
+unfolding ofBits sub add le div mul
+halved-ratio m b = ratio-at-most (sqrt2 ⊗ half) one m 3 (negsuc 2) 3 (negsuc 0) (omega arith) tt tt b tt tt tt tt
+
+-- s is not negative from m = 1 on
+plain-ratio-not-negative : (m : Float) → Between one sqrt2 m → NotNegative (ratio m)
+plain-ratio-not-negative m b =
+    let M : T (finite m) = between-is-finite one sqrt2 m tt (unfold ofBits in tt) b in
+    let d : Between two (sqrt2 ⊕ one) (m ⊕ one) = base-of m b in
+    let D : T (finite (m ⊕ one)) = between-is-finite two (sqrt2 ⊕ one) (m ⊕ one) tt (unfold ofBits add in tt) d in
+    let n : NotNegative (m ⊖ one) = sub-nonneg binary64 m one M tt (b .from) in
+    div-not-negative binary64 (m ⊖ one) (m ⊕ one) (between-finite zero⁺ (m ⊖ one) (sqrt2 ⊖ one) tt (unfold ofBits sub in tt) n (sub-mono binary64 m sqrt2 one M (unfold ofBits in tt) tt (b .to)))
+    (positive-above two (m ⊕ one) tt D (d .from)) n
+  where
+    base-of : (m : Float) → Between one sqrt2 m → Between two (sqrt2 ⊕ one) (m ⊕ one)
+    base-of m b = unfold ofBits add sub le in base-between one sqrt2 m 1 (negsuc 0) 1 (pos 1) (omega arith) tt tt b tt tt tt tt
+
+-- ---- e × hi + (e × lo + t), for an e from a to b and a t = 2 × (s × q) from c to d
+abbrev total : Float → Float → Float
+total e t = e ⊗ hi ⊕ (e ⊗ lo ⊕ t)
+
+-- every part of it is finite
+abbrev Tame : Float → Float → Type 0
+Tame e t = T (finite e) × T (finite t) × T (finite (e ⊗ hi)) × T (finite (e ⊗ lo)) × T (finite (e ⊗ lo ⊕ t))
+
+total-between : (a b c d e t : Float) → Tame a c → Tame b d → Between a b e → Between c d t → Between (total a c) (total b d) (total e t)
+total-between a b c d e t A B e-in t-in =
+    add-between binary64 (a ⊗ hi) (b ⊗ hi) (a ⊗ lo ⊕ c) (b ⊗ lo ⊕ d) (e ⊗ hi) (e ⊗ lo ⊕ t) (A .2) (B .2) (A .4) (B .4) (mul-between-by binary64 a b e hi (A .0) (B .0) (unfold ofBits in tt) (unfold ofBits le in tt) e-in)
+    (add-between binary64 (a ⊗ lo) (b ⊗ lo) c d (e ⊗ lo) t (A .3) (B .3) (A .1) (B .1) (mul-between-by binary64 a b e lo (A .0) (B .0) (unfold ofBits in tt) (unfold ofBits le in tt) e-in) t-in)
+
+-- |s| ≤ 1/4, and e from −1022 to 1024
+abbrev lowest : Float
+lowest = fin true 511 (pos 1)
+
+abbrev highest : Float
+highest = fin false 1 (pos 10)
+
+abbrev fiveEighths⁻ : Float
+fiveEighths⁻ = fin true 5 (negsuc 2)
+
+twice-between : (m : Float) → AtMost quarter (ratio m) → Between fiveEighths⁻ fiveEighths (logTwice (ratio m))
+unfolding neg
+twice-between m s = let S = at-most-finite quarter (ratio m) tt s in between-of-at-most fiveEighths (logTwice (ratio m)) (twice-finite (ratio m) S s) (twice-at-most (ratio m) S s)
+
+tame-low : Tame lowest fiveEighths⁻
+unfolding ofBits mul add
+tame-low = (tt, tt, tt, tt, tt)
+
+tame-high : Tame highest fiveEighths
+unfolding ofBits mul add
+tame-high = (tt, tt, tt, tt, tt)
+
+at-bounded : (m e : Float) → AtMost quarter (ratio m) → Between lowest highest e → Between (fin true 711 (pos 0)) (fin false 711 (pos 0)) (logAt m e)
+at-bounded m e s b = wider (total lowest fiveEighths⁻) (total highest fiveEighths) (fin true 711 (pos 0)) (fin false 711 (pos 0)) (logAt m e) low high
+    (total-between lowest highest fiveEighths⁻ fiveEighths e (logTwice (ratio m)) tame-low tame-high b (twice-between m s))
+  where
+    low : T (le (fin true 711 (pos 0)) (total lowest fiveEighths⁻))
+    low = unfold ofBits mul add le in tt
+
+    high : T (le (total highest fiveEighths) (fin false 711 (pos 0)))
+    high = unfold ofBits mul add le in tt
+
+-- e up to 129
+at-most-91 : (m e : Float) → AtMost quarter (ratio m) → Between lowest (fin false 129 (pos 0)) e → T (le (logAt m e) (fin false 91 (pos 0)))
+at-most-91 m e s b = le-trans-all (logAt m e) (total (fin false 129 (pos 0)) fiveEighths) (fin false 91 (pos 0))
+    (total-between lowest (fin false 129 (pos 0)) fiveEighths⁻ fiveEighths e (logTwice (ratio m)) tame-low (unfold ofBits mul add in (tt, tt, tt, tt, tt)) b (twice-between m s) .to)
+    (unfold ofBits mul add le in tt)
+
+-- e from 1 on: hi is above 5/8
+at-not-negative : (m e : Float) → AtMost quarter (ratio m) → Between one highest e → NotNegative (logAt m e)
+at-not-negative m e s b = le-trans-all zero⁺ (total one fiveEighths⁻) (logAt m e) (unfold ofBits mul add le in tt)
+    (total-between one highest fiveEighths⁻ fiveEighths e (logTwice (ratio m)) (unfold ofBits mul add in (tt, tt, tt, tt, tt)) tame-high b (twice-between m s) .from)
+
+-- e from 0 on and m from 1 on: no part is negative
+parts-not-negative : (m e : Float) → Between one sqrt2 m → Between zero⁺ highest e → NotNegative (logAt m e)
+parts-not-negative m e m-in b =
+    let s = plain-ratio m m-in in
+    let S = at-most-finite quarter (ratio m) tt s in
+    let n = twice-not-negative (ratio m) S s (plain-ratio-not-negative m m-in) in
+    le-trans-all zero⁺ (total zero⁺ zero⁺) (logAt m e) (unfold ofBits mul add le in tt)
+    (total-between zero⁺ highest zero⁺ fiveEighths e (logTwice (ratio m)) (unfold ofBits mul add in (tt, tt, tt, tt, tt)) tame-high b (record { from = n; to = twice-between m s .to }) .from)
+
+-- ---- L of a positive normal v is one of two such sums
+log-is : (v : Float) → Normal v → logOf v ≡ logHalved (mantissa v) (exponent v)
+unfolding logOf
+log-is v n = rw (is-true (le smallestNormal v) (n .least), is-true (lt v (inf false)) (under v (n .finite-is)))
+  where
+    under : (v : Float) → T (finite v) → T (lt v (inf false))
+    under nan h = absurd h
+    under (inf s) h = absurd h
+    under (fin s m e) h = unfold lt in tt
+
+by-cases : (R : Float → Type 0) (v : Float) → Normal v → (T (lt sqrt2 (mantissa v)) → R (logAt (mantissa v ⊗ half) (exponent v ⊕ one))) → (T (not (lt sqrt2 (mantissa v))) → R (logAt (mantissa v) (exponent v))) → R (logOf v)
+by-cases R v n h k = rw (log-is v n) (go (lt sqrt2 (mantissa v)) h k)
+  where
+    go : (b : Bool) → (T b → R (logAt (mantissa v ⊗ half) (exponent v ⊕ one))) → (T (not b) → R (logAt (mantissa v) (exponent v))) → R (cond b (logAt (mantissa v ⊗ half) (exponent v ⊕ one)) (logAt (mantissa v) (exponent v)))
+    go true h k = h tt
+    go false h k = k tt
+
+module _ (v : Float) (n : Normal v) where
+  mantissa-finite : T (finite (mantissa v))
+  mantissa-finite = between-finite one (mantissa v) two tt tt (mantissa-range v n .0) (mantissa-range v n .1)
+
+  halved-mantissa : T (lt sqrt2 (mantissa v)) → AtMost quarter (ratio (mantissa v ⊗ half))
+  halved-mantissa h = halved-ratio (mantissa v ⊗ half) (to-one (mul-between-by binary64 sqrt2 two (mantissa v) half (unfold ofBits in tt) tt (unfold ofBits in tt) (unfold ofBits le in tt) (record { from = lt→le sqrt2 (mantissa v) h; to = mantissa-range v n .1 })))
+    where
+      to-one : Between (sqrt2 ⊗ half) (two ⊗ half) (mantissa v ⊗ half) → Between (sqrt2 ⊗ half) one (mantissa v ⊗ half)
+      to-one b = wider (sqrt2 ⊗ half) (two ⊗ half) (sqrt2 ⊗ half) one (mantissa v ⊗ half) (unfold ofBits mul le in tt) (unfold ofBits mul le in tt) b
+
+  plain-mantissa : T (not (lt sqrt2 (mantissa v))) → Between one sqrt2 (mantissa v)
+  plain-mantissa h = record { from = mantissa-range v n .0; to = not-lt→le sqrt2 (mantissa v) (unfold ofBits in tt) mantissa-finite h }
+
+  -- e + 1, and e itself
+  exponent-between : Between lowest (fin false 1023 (pos 0)) (exponent v)
+  exponent-between = record { from = exponent-range v n .0; to = exponent-range v n .1 }
+
+  next : (a b : Float) → T (finite a) → T (finite b) → Between a b (exponent v) → Between (a ⊕ one) (b ⊕ one) (exponent v ⊕ one)
+  next a b A B e-in = add-between binary64 a b one one (exponent v) one A B tt tt e-in (record { from = unfold le in tt; to = unfold le in tt })
+
+  log-between : Between (fin true 711 (pos 0)) (fin false 711 (pos 0)) (logOf v)
+  log-between = by-cases (Between (fin true 711 (pos 0)) (fin false 711 (pos 0))) v n
+      (λ h. at-bounded (mantissa v ⊗ half) (exponent v ⊕ one) (halved-mantissa h)
+      (wider (lowest ⊕ one) (fin false 1023 (pos 0) ⊕ one) lowest highest (exponent v ⊕ one) (unfold add le in tt) (unfold add le in tt) (next lowest (fin false 1023 (pos 0)) tt tt exponent-between)))
+      (λ h. at-bounded (mantissa v) (exponent v) (plain-ratio (mantissa v) (plain-mantissa h)) (wider lowest (fin false 1023 (pos 0)) lowest highest (exponent v) (unfold le in tt) (unfold le in tt) exponent-between))
+
+pub log-finite : LogFinite
+log-finite v n = let b = log-between v n in record { finite-is = between-is-finite (fin true 711 (pos 0)) (fin false 711 (pos 0)) (logOf v) tt tt b; from = b .from; to = b .to }
+
+pub log-not-negative : LogNotNegative
+log-not-negative v n h =
+    let e-in : Between zero⁺ (fin false 1023 (pos 0)) (exponent v) = record { from = exponent-from-one v n h; to = exponent-range v n .1 } in
+    by-cases NotNegative v n
+    (λ l. at-not-negative (mantissa v ⊗ half) (exponent v ⊕ one) (halved-mantissa v n l)
+    (wider (zero⁺ ⊕ one) (fin false 1023 (pos 0) ⊕ one) one highest (exponent v ⊕ one) (unfold add le in tt) (unfold add le in tt) (next v n zero⁺ (fin false 1023 (pos 0)) tt tt e-in)))
+    (λ l. parts-not-negative (mantissa v) (exponent v) (plain-mantissa v n l) (wider zero⁺ (fin false 1023 (pos 0)) zero⁺ highest (exponent v) (unfold le in tt) (unfold le in tt) e-in))
+
+pub log-most : LogMost
+log-most v n h =
+    let e-in : Between lowest (fin false 1 (pos 7)) (exponent v) = record { from = exponent-range v n .0; to = exponent-to-128 v n h } in
+    by-cases (λ (x : Float). T (le x (fin false 91 (pos 0)))) v n
+    (λ l. at-most-91 (mantissa v ⊗ half) (exponent v ⊕ one) (halved-mantissa v n l)
+    (wider (lowest ⊕ one) (fin false 1 (pos 7) ⊕ one) lowest (fin false 129 (pos 0)) (exponent v ⊕ one) (unfold add le in tt) (unfold add le in tt) (next v n lowest (fin false 1 (pos 7)) tt tt e-in)))
+    (λ l. at-most-91 (mantissa v) (exponent v) (plain-ratio (mantissa v) (plain-mantissa v n l)) (wider lowest (fin false 1 (pos 7)) lowest (fin false 129 (pos 0)) (exponent v) (unfold le in tt) (unfold le in tt) e-in))
+
+-- ---- log10, by ln 10 ≥ 2357 / 1024
+pub log10-finite : Log10Finite
+unfolding log10Of neg
+log10-finite v n =
+    let l = log-finite v n in
+    let a : AtMost (fin false 711 (pos 0)) (logOf v) = at-most-of (fin false 711 (pos 0)) (logOf v) (l .finite-is) (l .from) (l .to) in
+    let d = div-at-most binary64 (logOf v) ln10 711 (pos 0) 2357 (negsuc 9) (omega arith) (l .finite-is) (unfold ofBits in tt) a (unfold ofBits magnitude le in tt) in
+    let q : AtMost (fin false 309 (pos 0)) (logOf v ⊘ ln10) = le-trans-all (magnitude (logOf v ⊘ ln10)) (fin false 711 (pos 0) ⊘ fin false 2357 (negsuc 9)) (fin false 309 (pos 0)) d (unfold div le in tt) in
+    let Q = at-most-finite (fin false 309 (pos 0)) (logOf v ⊘ ln10) tt q in
+    record { finite-is = Q; from = at-most-low (fin false 309 (pos 0)) (logOf v ⊘ ln10) Q q; to = at-most-high (fin false 309 (pos 0)) (logOf v ⊘ ln10) Q q }
+
+pub log10-infinite : Log10Infinite
+unfolding log10Of logOf ofBits le lt div
+log10-infinite = refl

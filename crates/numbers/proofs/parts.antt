@@ -1,2 +1,0 @@
--- What `split`'s proof uses.
-mod Value
