@@ -36,20 +36,11 @@ pub fn floor(x: f64) -> f64
     x
 }
 
-// The smallest whole number that is not below x.
+// The smallest whole number that is not below x: floor from the other side of zero.
 pub fn ceil(x: f64) -> f64
     ensures { λ r. ⌜ r ≡ wholeAbove x ⌝ }
 {
-    if is_finite(x) {
-        let p = split(x);
-        if p.exp < 1074 {
-            if p.minus {
-                return signed(p.minus, cut(p.sig, 1074 - p.exp));
-            }
-            return signed(p.minus, cut_up(p.sig, 1074 - p.exp));
-        }
-    }
-    x
+    -floor(-x)
 }
 
 // ±mag as a float. It is exact, and keeps the sign of a zero.

@@ -30,10 +30,29 @@ neg-units f q k = go (ltb (q * 2 ^ k) (2 ^ (low f + suc (emax f))))
     go true = neg-odd (suc (prec f)) q k (low f)
     go false = refl
 
+pub neg-neg : (x : Float) → neg (neg x) ≡ x
+unfolding neg
+neg-neg nan = refl
+neg-neg (inf true) = refl
+neg-neg (inf false) = refl
+neg-neg (fin true m e) = refl
+neg-neg (fin false m e) = refl
+
 pub neg-round : (f : Format) (num den : ℕ) → neg (round f false num den) ≡ round f true num den
 neg-round f num den =
     let k = size (num * 2 ^ low f / den) - prec f in
     ap neg (round-is f false num den) ∙ neg-units f (closest (num * 2 ^ low f) (den * 2 ^ k)) k ∙ sym (round-is f true num den)
+
+-- the ceiling is the floor from the other side of zero
+pub above-is : (x : Float) → neg (wholeBelow (neg x)) ≡ wholeAbove x
+unfolding wholeBelow wholeAbove neg
+above-is nan = refl
+above-is (inf true) = refl
+above-is (inf false) = refl
+above-is (fin false m e) =
+    let n = upward (m * up e) (down e) in
+    ap neg (sym (neg-round binary64 n 1)) ∙ neg-neg (round binary64 false n 1)
+above-is (fin true m e) = neg-round binary64 (m * up e / down e) 1
 
 -- ---- a value of the format rounds to itself
 pub round-own : (x : Float) (s : Bool) (sig exp num den : ℕ) → T (fits binary64 x) → Parted x s sig exp → 0 < den → num * 2 ^ 1074 ≡ sig * 2 ^ exp * den → round binary64 s num den ≡ x
@@ -126,20 +145,6 @@ module _ (x : Float) (s : Bool) (sig exp : ℕ) (P : HasValue x s (sig * 2 ^ exp
           ∙ ap (λ (n : ℕ). round binary64 t (cond t n (sig / C)) 1) (sym (upward-same (m * up e) (down e) sig C (down-pos e) (pow-pos (1074 - exp)) e'))
           ∙ ap (λ (n : ℕ). round binary64 t (cond t (upward (m * up e) (down e)) n) 1) (sym (div-same (m * up e) (down e) sig C (down-pos e) (pow-pos (1074 - exp)) e'))
 
-  pub above-small : round binary64 s (cond s (sig / C) (upward sig C)) 1 ≡ wholeAbove x
-  unfolding wholeAbove
-  above-small = go x P
-    where
-      go : (y : Float) → HasValue y s (sig * 2 ^ exp) (2 ^ 1074) → round binary64 s (cond s (sig / C) (upward sig C)) 1 ≡ wholeAbove y
-      go nan k = absurd k
-      go (inf t) k = absurd k
-      go (fin t m e) k =
-          let e' = cross (m * up e) (down e) sig exp h (k .1) in
-          ap (λ (b : Bool). round binary64 b (cond b (sig / C) (upward sig C)) 1) (sym (k .0))
-          ∙ ap (λ (n : ℕ). round binary64 t (cond t (sig / C) n) 1) (sym (upward-same (m * up e) (down e) sig C (down-pos e) (pow-pos (1074 - exp)) e'))
-          ∙ ap (λ (n : ℕ). round binary64 t (cond t n (upward (m * up e) (down e))) 1) (sym (div-same (m * up e) (down e) sig C (down-pos e) (pow-pos (1074 - exp)) e'))
-
--- ---- a whole number
 halfUp-one : (W D : ℕ) → 0 < D → halfUp (W * D) D ≡ W
 halfUp-one W D P = halfUp-same (W * D) D W 1 P (zero-lt-suc 0) (mul-one (W * D)) ∙ odd-half W
   where
@@ -192,18 +197,6 @@ module _ (s : Bool) (sig exp : ℕ) (h : 1074 ≤ exp) where
       ∙ ap (λ (n : ℕ). round binary64 t n 1)
       (sym (ap (λ (n : ℕ). cond t (upward n (down e)) (n / down e)) w ∙ ap (λ (n : ℕ). cond t n (W * down e / down e)) (upward-one W (down e) (down-pos e)) ∙ ap (λ (n : ℕ). cond t W n) (mul-div-cancel W (down-pos e)) ∙ both-same t W))
 
-  pub above-large : (x : Float) → T (fits binary64 x) → Parted x s sig exp → x ≡ wholeAbove x
-  unfolding wholeAbove
-  above-large nan F P = refl
-  above-large (inf t) F P = refl
-  above-large (fin t m e) F P =
-      let w = whole-cross (m * up e) (down e) sig exp h (P .value .1) in
-      sym (round-own (fin t m e) s sig exp W 1 F P (zero-lt-suc 0) scaled)
-      ∙ ap (λ (b : Bool). round binary64 b W 1) (sym (P .value .0))
-      ∙ ap (λ (n : ℕ). round binary64 t n 1)
-      (sym (ap (λ (n : ℕ). cond t (n / down e) (upward n (down e))) w ∙ ap (λ (n : ℕ). cond t (W * down e / down e) n) (upward-one W (down e) (down-pos e)) ∙ ap (λ (n : ℕ). cond t n W) (mul-div-cancel W (down-pos e)) ∙ both-same t W))
-
--- ---- not finite
 pub nearest-other : (x : Float) → lib.Ieee.Scale.finite x ≡ false → x ≡ wholeNearest x
 unfolding wholeNearest
 nearest-other nan h = refl
@@ -216,13 +209,6 @@ below-other nan h = refl
 below-other (inf s) h = refl
 below-other (fin s m e) h = absurd (mathlib.Core.Bool.true≢false h)
 
-pub above-other : (x : Float) → lib.Ieee.Scale.finite x ≡ false → x ≡ wholeAbove x
-unfolding wholeAbove
-above-other nan h = refl
-above-other (inf s) h = refl
-above-other (fin s m e) h = absurd (mathlib.Core.Bool.true≢false h)
-
--- ---- the whole numbers are small
 more : (s c : ℕ) → 0 < c → 2 * s + c < (s + 2) * (2 * c)
 more s c h =
     let g : s ≤ s * c = native.Mathlib.Nat.le-mul-of-pos-right s h in

@@ -1,87 +1,13 @@
 -- `numbers::whole::ceil` meets its contract. Assumes nothing.
-use mathlib.Core.Path.{_≡_, sym, ap, _∙_, subst}
-use mathlib.Core.Bool.{Bool, cond}
-use Prim.Native.Nat.{ℕ, _-_, _/_, _^_, _≤_, _<_}
-use lib.Dec.{T}
-use lib.Ieee.{binary64, round, fits}
+use mathlib.Core.Path.{_≡_, ap, _∙_}
+use lib.Ieee.{neg}
 use borrow.Author.Needs.{needs}
-use Rattle.numbers.specs.Whole.{upward}
-use Rattle.numbers.proofs.whole.Fractions.{above-small, above-large, above-other, cut-le, upward-le}
+use Rattle.numbers.proofs.whole.Fractions.{above-is}
 use Rattle.numbers.proofs.whole.ceil.Statement.{statement}
 use Rattle.numbers.proofs.whole.ceil.Tie as tie
 
-held : (c : tie.Start) → T (fits binary64 (c .args .x))
-held c = subst T (sym (c .good .0 .1)) tt
-
-is-finite-requires : tie.Need-is-finite-requires
-is-finite-requires c κs = search needs
-
-split-requires : tie.Need-split-requires
-split-requires c κs = subst T (sym (sym (c .before .is-finite .ensures) ∙ c .if1 .taken)) tt
-
-sub-cut : tie.Need-sub-cut
-sub-cut c = search needs
-
-cut-requires : tie.Need-cut-requires
-cut-requires c κs = search needs
-
-signed-requires : tie.Need-signed-requires
-signed-requires c κs =
-    let p = c .before .before .before .before .before .split in
-    subst (λ (k : ℕ). k ≤ 9007199254740992) (sym (c .cut .ensures)) (cut-le (p .result .sig) (2 ^ (1074 - p .result .exp)) (p .ensures .sig-lt))
-
 returns : tie.Need-returns
-returns c =
-    let b = c .before .before .before .before .before .before in
-    let p = b .split in
-    c .signed .ensures
-    ∙ ap (λ (k : ℕ). round binary64 (p .result .minus) k 1) (c .before .cut .ensures ∙ sym (ap (λ (t : Bool). cond t (p .result .sig / 2 ^ (1074 - p .result .exp)) (upward (p .result .sig) (2 ^ (1074 - p .result .exp)))) (c .before .before .before .if3 .taken)))
-    ∙ above-small (b .before .before .before .args .x) (p .result .minus) (p .result .sig) (p .result .exp) (p .ensures .value) (c .before .before .before .before .if2 .taken)
-
-sub-cut-up : tie.Need-sub-cut-up
-sub-cut-up c = search needs
-
-cut-up-requires : tie.Need-cut-up-requires
-cut-up-requires c κs = search needs
-
-signed-requires-2 : tie.Need-signed-requires-2
-signed-requires-2 c κs =
-    let p = c .before .before .before .before .before .split in
-    subst (λ (k : ℕ). k ≤ 9007199254740992) (sym (c .cut-up .ensures)) (upward-le (p .result .sig) (2 ^ (1074 - p .result .exp)) (p .ensures .sig-lt))
-
-returns-2 : tie.Need-returns-2
-returns-2 c =
-    let b = c .before .before .before .before .before .before in
-    let p = b .split in
-    c .signed2 .ensures
-    ∙ ap (λ (k : ℕ). round binary64 (p .result .minus) k 1) (c .before .cut-up .ensures ∙ sym (ap (λ (t : Bool). cond t (p .result .sig / 2 ^ (1074 - p .result .exp)) (upward (p .result .sig) (2 ^ (1074 - p .result .exp)))) (c .before .before .before .if3 .left)))
-    ∙ above-small (b .before .before .before .args .x) (p .result .minus) (p .result .sig) (p .result .exp) (p .ensures .value) (c .before .before .before .before .if2 .taken)
-
-returns-3 : tie.Need-returns-3
-returns-3 c =
-    let b = c .before .before in
-    let p = b .split in
-    let s = b .before .before .before in
-    above-large (p .result .minus) (p .result .sig) (p .result .exp) (c .if2 .left) (s .args .x) (held s) (p .ensures)
-
-returns-4 : tie.Need-returns-4
-returns-4 c =
-    let b = c .before in
-    above-other (b .before .args .x) (sym (b .is-finite .ensures) ∙ c .if1 .left)
+returns c = ap neg (c .floor .ensures) ∙ above-is (c .before .args .x)
 
 pub ceil-spec : {M : Type 1} → statement M
-ceil-spec =
-    tie.close
-    (tie.spec
-    is-finite-requires
-    split-requires
-    sub-cut
-    cut-requires
-    signed-requires
-    returns
-    sub-cut-up
-    cut-up-requires
-    signed-requires-2
-    returns-2
-    returns-3
-    returns-4)
+ceil-spec = tie.close (tie.spec (λ c κs. search needs) returns)
