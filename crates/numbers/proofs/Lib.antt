@@ -1,3 +1,4 @@
 -- What the proofs of several modules use.
+pub mod Sign
 pub mod Encode
 pub mod Value

@@ -15,35 +15,9 @@ use lib.Ieee.Nearest.{closest, div-same}
 use Rattle.numbers.specs.Parts.{Parted}
 use Rattle.numbers.specs.Whole.{halfUp, upward, wholeNearest, wholeBelow, wholeAbove}
 use Rattle.numbers.proofs.Encode.{same-value}
+use Rattle.numbers.proofs.Sign.{neg-neg, neg-round}
 
--- ---- the sign goes through a rounding
-neg-odd : (d q k l : ℕ) → neg (odd d false q k l) ≡ odd d true q k l
-unfolding odd neg
-neg-odd d zero k l = refl
-neg-odd d (suc q) k l = refl
-
-neg-units : (f : Format) (q k : ℕ) → neg (units f false q k) ≡ units f true q k
-unfolding units neg
-neg-units f q k = go (ltb (q * 2 ^ k) (2 ^ (low f + suc (emax f))))
-  where
-    go : (b : Bool) → neg (cond b (odd (suc (prec f)) false q k (low f)) (inf false)) ≡ cond b (odd (suc (prec f)) true q k (low f)) (inf true)
-    go true = neg-odd (suc (prec f)) q k (low f)
-    go false = refl
-
-pub neg-neg : (x : Float) → neg (neg x) ≡ x
-unfolding neg
-neg-neg nan = refl
-neg-neg (inf true) = refl
-neg-neg (inf false) = refl
-neg-neg (fin true m e) = refl
-neg-neg (fin false m e) = refl
-
-pub neg-round : (f : Format) (num den : ℕ) → neg (round f false num den) ≡ round f true num den
-neg-round f num den =
-    let k = size (num * 2 ^ low f / den) - prec f in
-    ap neg (round-is f false num den) ∙ neg-units f (closest (num * 2 ^ low f) (den * 2 ^ k)) k ∙ sym (round-is f true num den)
-
--- the ceiling is the floor from the other side of zero
+-- ---- the ceiling is the floor from the other side of zero
 pub above-is : (x : Float) → neg (wholeBelow (neg x)) ≡ wholeAbove x
 unfolding wholeBelow wholeAbove neg
 above-is nan = refl
