@@ -18,31 +18,38 @@ use lib.Ieee.Positive.{positive, positive-finite, cross→le, between, mul-mono}
 use lib.Pow.{pow-pos, pow-mono}
 use Rattle.numbers.specs.Arithmetic.{_⊕_, _⊗_, _⊘_, zero⁺, one, two}
 use Rattle.numbers.specs.Exponential.{limit, limit⁻, ln10, twoTo, expSeries, expWhole, expRest, expAt, expOf, tenTo}
-use Rattle.number_laws.specs.ExpLaws.{restMost, restMost⁻, SeriesBounded, ExpSeriesBounded, ExpLaws, ExpHasLaws, tenMost, tenMost⁻, TenToHasLaws}
-use Rattle.number_laws.proofs.Signed.{P, le-self, lt→le, not-lt→le-num, le→not-lt, le-trans-all, add-mono, between-finite}
-use Rattle.number_laws.proofs.Apart.{magnitude, magnitude-round}
-use Rattle.number_laws.proofs.Bounded.{AtMost, at-most-low, at-most-high, at-most-of, mul-at-most, div-at-most}
-use Rattle.number_laws.proofs.BoundedSums.{at-most-finite}
-use Rattle.number_laws.proofs.Scaled.{times-number, times-mono}
+use Rattle.numbers.proofs.Value.{finite-no-nan}
+use Rattle.number_laws.specs.ExpLaws.{restMost, restMost⁻, sumLeast, sumMost, ExpSeriesBounded, ExpLaws, ExpHasLaws, tenMost, tenMost⁻, TenToHasLaws}
 use Rattle.number_laws.proofs.TwoTo.{signed, two-to-whole}
 use Rattle.number_laws.proofs.ExpReduced.{Reduced, limited, reduced}
+use Rattle.number_laws.specs.Values.{Number, magnitude, AtMost, Between, Monotone}
+use Rattle.number_laws.proofs.Order.{P, le-self, lt→le, not-lt→le, le→not-lt, le-transitive, wider, at-most-between, between-at-most}
+use Rattle.number_laws.proofs.Rounding.{magnitude-round}
+use Rattle.number_laws.proofs.Sums.{add-between}
+use Rattle.number_laws.proofs.Products.{mul-at-most, div-at-most, mul-number, mul-mono-by-positive}
 
 -- ---- the series
--- 3/8 × 7/4 is 21/32, and so is its quotient by 1
-times-most : restMost ⊗ fin false 7 (negsuc 1) ≡ fin false 21 (negsuc 4)
+-- 21/32, which is 3/8 × 7/4, and its quotient by 1
+abbrev termMost : Float
+termMost = fin false 21 (negsuc 4)
+
+abbrev termMost⁻ : Float
+termMost⁻ = fin true 21 (negsuc 4)
+
+times-most : restMost ⊗ sumMost ≡ termMost
 unfolding mul round units size span climb odd trailingZeros
 times-most = refl
 
-over-one : fin false 21 (negsuc 4) ⊘ one ≡ fin false 21 (negsuc 4)
+over-one : termMost ⊘ one ≡ termMost
 unfolding div round units size span climb odd trailingZeros
 over-one = refl
 
 -- 1 ± 21/32
-least : T (le (fin false 1 (negsuc 1)) (one ⊕ fin true 21 (negsuc 4)))
+least : T (le sumLeast (one ⊕ termMost⁻))
 unfolding le lt eq add sum round units size span climb odd trailingZeros
 least = tt
 
-most : T (le (one ⊕ fin false 21 (negsuc 4)) (fin false 7 (negsuc 1)))
+most : T (le (one ⊕ termMost) sumMost)
 unfolding le lt eq add sum round units size span climb odd trailingZeros
 most = tt
 
@@ -50,52 +57,37 @@ one-is : round binary64 false 1 1 ≡ one
 unfolding round units size span climb odd trailingZeros
 one-is = refl
 
-number-finite : (n : ℕ) → n ≤ 13 → T (finite (ofInt binary64 (pos n)))
-unfolding ofInt
-number-finite n h = of-value (round binary64 false n 1) (round-whole binary64 false n (le-trans h (lit≤ tt)))
-  where
-    of-value : (x : Float) → HasValue x false n 1 → T (finite x)
-    of-value nan v = v
-    of-value (inf s) v = v
-    of-value (fin s m e) v = tt
-
 number-least : (n : ℕ) → T (le one (magnitude (ofInt binary64 (pos (suc n)))))
 unfolding ofInt
 number-least n = rw (magnitude-round binary64 false (suc n) 1, ← one-is) (round-mono binary64 1 1 (suc n) 1 (lit< tt) (lit< tt) (omega arith))
 
-bounded-at-most : (p : Float) → SeriesBounded p → T (finite p) × AtMost (fin false 7 (negsuc 1)) p
+sum-at-most : (p : Float) → Between sumLeast sumMost p → AtMost sumMost p
 unfolding neg
-bounded-at-most p b =
-    let F : T (finite p) = between-finite (fin false 1 (negsuc 1)) p (fin false 7 (negsuc 1)) tt tt (b .low) (b .high) in
-    (F, at-most-of (fin false 7 (negsuc 1)) p F (le-trans-all (fin true 7 (negsuc 1)) (fin false 1 (negsuc 1)) p (unfold le lt eq in tt) (b .low)) (b .high))
+sum-at-most p b = between-at-most sumMost p (wider sumLeast sumMost (neg sumMost) sumMost p (unfold le lt eq in tt) (le-self sumMost tt) b)
 
 -- |r × p / n| ≤ 21/32
-term-at-most : (n : ℕ) (r p : Float) → n < 13 → AtMost restMost r → SeriesBounded p → AtMost (fin false 21 (negsuc 4)) (r ⊗ p ⊘ ofInt binary64 (pos (suc n)))
-term-at-most n r p h R b =
-    let k = bounded-at-most p b in
-    let m : AtMost (fin false 21 (negsuc 4)) (r ⊗ p) = rw (← times-most) (mul-at-most binary64 r p 3 (negsuc 2) 7 (negsuc 1) (at-most-finite 3 (negsuc 2) r R) (k .0) R (k .1)) in
-    rw (← over-one) (div-at-most binary64 (r ⊗ p) (ofInt binary64 (pos (suc n))) 21 (negsuc 4) 1 (pos 0) (lit< tt) (at-most-finite 21 (negsuc 4) (r ⊗ p) m) (number-finite (suc n) h) m (number-least n))
+term-at-most : (n : ℕ) (r p : Float) → AtMost restMost r → Between sumLeast sumMost p → AtMost termMost (r ⊗ p ⊘ ofInt binary64 (pos (suc n)))
+term-at-most n r p R b =
+    let m : AtMost termMost (r ⊗ p) = rw (← times-most) (mul-at-most binary64 r p restMost sumMost tt tt R (sum-at-most p b)) in
+    rw (← over-one) (div-at-most binary64 (r ⊗ p) (ofInt binary64 (pos (suc n))) termMost one tt tt m (number-least n))
 
-from-one : (q : Float) → AtMost (fin false 21 (negsuc 4)) q → SeriesBounded (one ⊕ q)
+from-one : (q : Float) → AtMost termMost q → Between sumLeast sumMost (one ⊕ q)
 unfolding neg
 from-one q h =
-    let F = at-most-finite 21 (negsuc 4) q h in
-    record {
-      low = le-trans-all (fin false 1 (negsuc 1)) (one ⊕ fin true 21 (negsuc 4)) (one ⊕ q) least (add-mono binary64 one one (fin true 21 (negsuc 4)) q tt tt tt F (le-self one tt) (at-most-low (fin false 21 (negsuc 4)) q F h));
-      high = le-trans-all (one ⊕ q) (one ⊕ fin false 21 (negsuc 4)) (fin false 7 (negsuc 1)) (add-mono binary64 one one q (fin false 21 (negsuc 4)) tt tt F tt (le-self one tt) (at-most-high (fin false 21 (negsuc 4)) q F h)) most;
-    }
+    wider (one ⊕ termMost⁻) (one ⊕ termMost) sumLeast sumMost (one ⊕ q) least most
+    (add-between binary64 one one termMost⁻ termMost one q tt tt tt tt (record { from = le-self one tt; to = le-self one tt }) (at-most-between termMost q h))
 
-series-bounded : (n : ℕ) (r p : Float) → n ≤ 13 → AtMost restMost r → SeriesBounded p → SeriesBounded (expSeries n r p)
+series-bounded : (n : ℕ) (r p : Float) → n ≤ 13 → AtMost restMost r → Between sumLeast sumMost p → Between sumLeast sumMost (expSeries n r p)
 unfolding expSeries
 series-bounded zero r p h R b = b
-series-bounded (suc n) r p h R b = series-bounded n r (one ⊕ r ⊗ p ⊘ ofInt binary64 (pos (suc n))) (omega arith) R (from-one (r ⊗ p ⊘ ofInt binary64 (pos (suc n))) (term-at-most n r p h R b))
+series-bounded (suc n) r p h R b = series-bounded n r (one ⊕ r ⊗ p ⊘ ofInt binary64 (pos (suc n))) (omega arith) R (from-one (r ⊗ p ⊘ ofInt binary64 (pos (suc n))) (term-at-most n r p R b))
 
-one-bounded : SeriesBounded one
-one-bounded = record { low = unfold le lt eq in tt; high = unfold le lt eq in tt }
+one-bounded : Between sumLeast sumMost one
+one-bounded = record { from = unfold le lt eq in tt; to = unfold le lt eq in tt }
 
 pub exp-series-bounded : ExpSeriesBounded
 unfolding neg
-exp-series-bounded r l h = series-bounded 13 r one (lit≤ tt) (at-most-of restMost r (between-finite restMost⁻ r restMost tt tt l h) l h) one-bounded
+exp-series-bounded r b = series-bounded 13 r one (lit≤ tt) (between-at-most restMost r b) one-bounded
 
 -- ---- 2^k for a k within ±995
 power-le : (d e : ℤ) → up d * down e ≤ up e * down d → T (le (fin false 1 d) (fin false 1 e))
@@ -118,32 +110,32 @@ power-one true (suc n) h = power-le (negsuc n) (pos 0) (let x = pow-pos (suc n) 
 
 -- ---- E from -690 to 690
 -- 1/4 × 2^-995 and 7/4 × 2^995
-product-least : fin false 1 (negsuc 1) ⊗ fin false 1 (negsuc 994) ≡ fin false 1 (negsuc 996)
+product-least : sumLeast ⊗ fin false 1 (negsuc 994) ≡ fin false 1 (negsuc 996)
 unfolding mul round units size span climb odd trailingZeros
 product-least = refl
 
-product-most : fin false 7 (negsuc 1) ⊗ fin false 1 (pos 995) ≡ fin false 7 (pos 993)
+product-most : sumMost ⊗ fin false 1 (pos 995) ≡ fin false 7 (pos 993)
 unfolding mul round units size span climb odd trailingZeros
 product-most = refl
 
-product-one : T (le (fin false 7 (negsuc 1) ⊗ one) two)
+product-one : T (le (sumMost ⊗ one) two)
 unfolding le lt eq mul round units size span climb odd trailingZeros
 product-one = tt
 
-module _ (p : Float) (b : SeriesBounded p) (s : Bool) (n : ℕ) (h : n ≤ 995) where
+module _ (p : Float) (b : Between sumLeast sumMost p) (s : Bool) (n : ℕ) (h : n ≤ 995) where
   p-positive : T (positive p)
-  p-positive = between (fin false 1 (negsuc 1)) p (fin false 7 (negsuc 1)) tt tt (b .low) (b .high)
+  p-positive = between sumLeast p sumMost tt tt (b .from) (b .to)
 
   product-positive : T (positive (p ⊗ fin false 1 (signed s n)))
   product-positive =
       between (fin false 1 (negsuc 996)) (p ⊗ fin false 1 (signed s n)) (fin false 7 (pos 993)) tt tt
-      (rw (← product-least) (mul-mono binary64 (fin false 1 (negsuc 1)) p (fin false 1 (negsuc 994)) (fin false 1 (signed s n)) tt p-positive tt tt (b .low) (power-least s n h)))
-      (rw (← product-most) (mul-mono binary64 p (fin false 7 (negsuc 1)) (fin false 1 (signed s n)) (fin false 1 (pos 995)) p-positive tt tt tt (b .high) (power-most s n h)))
+      (rw (← product-least) (mul-mono binary64 sumLeast p (fin false 1 (negsuc 994)) (fin false 1 (signed s n)) tt p-positive tt tt (b .from) (power-least s n h)))
+      (rw (← product-most) (mul-mono binary64 p sumMost (fin false 1 (signed s n)) (fin false 1 (pos 995)) p-positive tt tt tt (b .to) (power-most s n h)))
 
   product-at-most : P s n ≡ 0 → T (le (p ⊗ fin false 1 (signed s n)) two)
   product-at-most k =
-      le-trans-all (p ⊗ fin false 1 (signed s n)) (fin false 7 (negsuc 1) ⊗ one) two
-      (mul-mono binary64 p (fin false 7 (negsuc 1)) (fin false 1 (signed s n)) one p-positive tt tt tt (b .high) (power-one s n k)) product-one
+      le-transitive (p ⊗ fin false 1 (signed s n)) (sumMost ⊗ one) two
+      (mul-mono binary64 p sumMost (fin false 1 (signed s n)) one p-positive tt tt tt (b .to) (power-one s n k)) product-one
 
 in-range : (s : Bool) (n : ℕ) → n ≤ 995 → n ≤ cond s 1022 1023
 in-range true n h = le-trans h (lit≤ tt)
@@ -153,7 +145,7 @@ module _ (x : Float) (r : Reduced x) where
   power-is : twoTo (expWhole x) ≡ fin false 1 (signed (r .minus) (r .whole))
   power-is = ap twoTo (r .is) ∙ two-to-whole (r .minus) (r .whole) (in-range (r .minus) (r .whole) (r .small))
 
-  series : SeriesBounded (expSeries 13 (expRest x (expWhole x)) one)
+  series : Between sumLeast sumMost (expSeries 13 (expRest x (expWhole x)) one)
   series = series-bounded 13 (expRest x (expWhole x)) one (lit≤ tt) (r .rest) one-bounded
 
   inside-positive : T (positive (expAt x (expWhole x)))
@@ -163,18 +155,12 @@ module _ (x : Float) (r : Reduced x) where
   inside-at-most h = rw power-is (product-at-most (expSeries 13 (expRest x (expWhole x)) one) series (r .minus) (r .whole) (r .small) (r .down-to h))
 
 -- ---- E
-positive-above : (x : Float) → T (positive x) → T (lt zero⁺ x)
+positive-lt : (x : Float) → T (positive x) → T (lt zero⁺ x)
 unfolding lt
-positive-above nan h = h
-positive-above (inf s) h = absurd h
-positive-above (fin true m e) h = absurd h
-positive-above (fin false m e) h = rw (zero-mul (down e)) (lt→ltb 0 (m * up e * 1) (mul-pos (mul-pos (ltb→lt 0 m h) (up-pos e)) (lit< tt)))
-
-finite-number : (x : Float) → T (finite x) → T (not (isNan x))
-unfolding isNan
-finite-number nan h = h
-finite-number (inf s) h = tt
-finite-number (fin s m e) h = tt
+positive-lt nan h = h
+positive-lt (inf s) h = absurd h
+positive-lt (fin true m e) h = absurd h
+positive-lt (fin false m e) h = rw (zero-mul (down e)) (lt→ltb 0 (m * up e * 1) (mul-pos (mul-pos (ltb→lt 0 m h) (up-pos e)) (lit< tt)))
 
 limit-number : T (not (isNan limit))
 unfolding isNan ofBits ofFields odd trailingZeros
@@ -216,18 +202,18 @@ high-infinite x l h = record {
   not-negative = rw (high-is x l h) (unfold le lt eq in tt);
   above-zero = λ k. rw (high-is x l h) (unfold lt in tt);
   is-finite = λ k. absurd (T-not (lt limit x) (le→not-lt limit x k) h);
-  at-most-two = λ k. absurd (T-not (lt limit x) (le→not-lt limit x (le-trans-all x zero⁺ limit k zero-limit)) h);
+  at-most-two = λ k. absurd (T-not (lt limit x) (le→not-lt limit x (le-transitive x zero⁺ limit k zero-limit)) h);
 }
 
-inside : (x : Float) → T (not (isNan x)) → T (not (lt x limit⁻)) → T (not (lt limit x)) → ExpLaws x
+inside : (x : Float) → Number x → T (not (lt x limit⁻)) → T (not (lt limit x)) → ExpLaws x
 inside x N l h =
-    let k = limited x (not-lt→le-num x limit⁻ N limit⁻-number l) (not-lt→le-num limit x limit-number N h) in
+    let k = limited x (record { from = not-lt→le x limit⁻ N limit⁻-number l; to = not-lt→le limit x limit-number N h }) in
     let r = reduced x (k .0) (k .1) in
     let p : T (positive (expOf x)) = rw (inside-is x l h) (inside-positive x r) in
     record {
-      number = finite-number (expOf x) (positive-finite (expOf x) p);
-      not-negative = lt→le zero⁺ (expOf x) (positive-above (expOf x) p);
-      above-zero = λ j. positive-above (expOf x) p;
+      number = finite-no-nan (expOf x) (positive-finite (expOf x) p);
+      not-negative = lt→le zero⁺ (expOf x) (positive-lt (expOf x) p);
+      above-zero = λ j. positive-lt (expOf x) p;
       is-finite = λ j. positive-finite (expOf x) p;
       at-most-two = λ j. rw (inside-is x l h) (inside-at-most x r j);
     }
@@ -241,15 +227,12 @@ exp-laws x N = go (lt x limit⁻) (lt limit x) (low-zero x) (high-infinite x) (i
     go false false f g i = i tt tt
 
 -- ---- 10^y
-ln10-is : ln10 ≡ fin false 2592480341699211 (negsuc 49)
+ln10-positive : T (positive ln10)
 unfolding ofBits ofFields odd trailingZeros
-ln10-is = refl
+ln10-positive = tt
 
-times-number-ln10 : (y : Float) → T (not (isNan y)) → T (not (isNan (y ⊗ ln10)))
-times-number-ln10 y h = rw ln10-is (times-number binary64 2592480341699210 (negsuc 49) y h)
-
-times-mono-ln10 : (x y : Float) → T (le x y) → T (le (x ⊗ ln10) (y ⊗ ln10))
-times-mono-ln10 x y h = rw ln10-is (times-mono binary64 2592480341699210 (negsuc 49) x y h)
+times-ln10 : Monotone (λ y. y ⊗ ln10)
+times-ln10 x y h = mul-mono-by-positive binary64 x y ln10 ln10-positive h
 
 ten-most : T (le (tenMost ⊗ ln10) limit)
 unfolding le lt eq mul round units size span climb ofBits ofFields odd trailingZeros
@@ -266,11 +249,11 @@ ten-zero = tt
 pub ten-to-laws : TenToHasLaws
 unfolding tenTo
 ten-to-laws y h =
-    let l = exp-laws (y ⊗ ln10) (times-number-ln10 y h) in
+    let l = exp-laws (y ⊗ ln10) (mul-number binary64 y ln10 ln10-positive h) in
     record {
       number = l .number;
       not-negative = l .not-negative;
-      above-zero = λ k. l .above-zero (le-trans-all limit⁻ (tenMost⁻ ⊗ ln10) (y ⊗ ln10) ten-least (times-mono-ln10 tenMost⁻ y k));
-      is-finite = λ k. l .is-finite (le-trans-all (y ⊗ ln10) (tenMost ⊗ ln10) limit (times-mono-ln10 y tenMost k) ten-most);
-      at-most-two = λ k. l .at-most-two (le-trans-all (y ⊗ ln10) (zero⁺ ⊗ ln10) zero⁺ (times-mono-ln10 y zero⁺ k) ten-zero);
+      above-zero = λ k. l .above-zero (le-transitive limit⁻ (tenMost⁻ ⊗ ln10) (y ⊗ ln10) ten-least (times-ln10 tenMost⁻ y k));
+      is-finite = λ k. l .is-finite (le-transitive (y ⊗ ln10) (tenMost ⊗ ln10) limit (times-ln10 y tenMost k) ten-most);
+      at-most-two = λ k. l .at-most-two (le-transitive (y ⊗ ln10) (zero⁺ ⊗ ln10) zero⁺ (times-ln10 y zero⁺ k) ten-zero);
     }

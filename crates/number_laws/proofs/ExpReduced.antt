@@ -18,11 +18,12 @@ use Rattle.numbers.specs.Arithmetic.{_⊕_, _⊖_, _⊗_, zero⁺}
 use Rattle.numbers.specs.Whole.{halfUp, wholeNearest}
 use Rattle.numbers.specs.Exponential.{limit, limit⁻, log2e, hi, lo, expWhole, expRest}
 use Rattle.number_laws.specs.ExpLaws.{restMost, ExpReduces}
-use Rattle.number_laws.proofs.Signed.{P, Below, le→below, le-self, le-trans-all, between-finite, sided, round-sided}
-use Rattle.number_laws.proofs.Apart.{magnitude, magnitude-round}
-use Rattle.number_laws.proofs.Bounded.{AtMost, cross, at-most-low, at-most-high, at-most-of, mul-at-most}
-use Rattle.number_laws.proofs.BoundedSums.{at-most-finite, sub-at-most}
-use Rattle.number_laws.proofs.Exactly.{dyadic-exact, mul-value, rounded-below, rounded-above, sub-near}
+use Rattle.number_laws.specs.Values.{magnitude, AtMost, Between}
+use Rattle.number_laws.proofs.Order.{P, Below, le→below, cross, le-self, le-transitive, between-finite, at-most-between, between-at-most}
+use Rattle.number_laws.proofs.Rounding.{sided, round-sided, magnitude-round}
+use Rattle.number_laws.proofs.Sums.{sub-at-most}
+use Rattle.number_laws.proofs.Products.{mul-at-most}
+use Rattle.number_laws.proofs.ExactValues.{dyadic-exact, mul-value, rounded-below, rounded-above, sub-near}
 
 -- ---- the digits of the constants: log2e is L / 2^51, hi is H / 2^32, lo is K / 2^84
 abbrev L : ℕ
@@ -105,7 +106,7 @@ unfolding wholeNearest
 whole-of s m e h =
     rw log2e-is
     (go (fin s m e ⊗ fin false L (negsuc 50)) (mul-value binary64 (fin s m e) s (m * up e) (down e) L (negsuc 50) (down-pos e) (refl, refl))
-    (subst (λ (b : Float). AtMost b (fin s m e ⊗ fin false L (negsuc 50))) most-is (mul-at-most binary64 (fin s m e) (fin false L (negsuc 50)) 345 (pos 1) L (negsuc 50) tt tt h (unfold magnitude in le-self (fin false L (negsuc 50)) tt))))
+    (subst (λ (b : Float). AtMost b (fin s m e ⊗ fin false L (negsuc 50))) most-is (mul-at-most binary64 (fin s m e) (fin false L (negsuc 50)) (fin false 345 (pos 1)) (fin false L (negsuc 50)) tt tt h (unfold magnitude in le-self (fin false L (negsuc 50)) tt))))
   where
     few : (p q : ℕ) → 0 < q → p * 2 ^ 40 ≤ 1094519381226609 * 1 * q → halfUp p q ≤ 995
     few p q Q l = at (halfUp p q) (half-up-below p q)
@@ -213,12 +214,12 @@ whole-at-most s n h = rw (magnitude-round binary64 s n 1) (subst (λ (b : Float)
 lo-at-most : (k : Float) → AtMost (fin false 995 (pos 0)) k → AtMost (fin false 56038961081115 (negsuc 67)) (k ⊗ lo)
 lo-at-most k h =
     rw (lo-is, ← times-lo)
-    (mul-at-most binary64 k (fin false K (negsuc 83)) 995 (pos 0) K (negsuc 83) (at-most-finite 995 (pos 0) k h) tt h (unfold magnitude in le-self (fin false K (negsuc 83)) tt))
+    (mul-at-most binary64 k (fin false K (negsuc 83)) (fin false 995 (pos 0)) (fin false K (negsuc 83)) tt tt h (unfold magnitude in le-self (fin false K (negsuc 83)) tt))
 
 rest-at-most : (s : Bool) (m : ℕ) (e : ℤ) (n : ℕ) → n ≤ 995 → Near (m * up e * L) (down e * 2 ^ 51) n → AtMost (fin false 3 (negsuc 2)) (expRest (fin s m e) (round binary64 s n 1))
 rest-at-most s m e n h k =
-    le-trans-all (magnitude (expRest (fin s m e) (round binary64 s n 1))) (fin false 23 (negsuc 5) ⊕ fin false 56038961081115 (negsuc 67)) (fin false 3 (negsuc 2))
-    (sub-at-most binary64 (fin s m e ⊖ round binary64 s n 1 ⊗ hi) (round binary64 s n 1 ⊗ lo) 23 (negsuc 5) 56038961081115 (negsuc 67)
+    le-transitive (magnitude (expRest (fin s m e) (round binary64 s n 1))) (fin false 23 (negsuc 5) ⊕ fin false 56038961081115 (negsuc 67)) (fin false 3 (negsuc 2))
+    (sub-at-most binary64 (fin s m e ⊖ round binary64 s n 1 ⊗ hi) (round binary64 s n 1 ⊗ lo) (fin false 23 (negsuc 5)) (fin false 56038961081115 (negsuc 67)) tt tt
     (subst (λ (b : Float). AtMost b (fin s m e ⊖ round binary64 s n 1 ⊗ hi)) first-bound (first-rest s m e n h k))
     (lo-at-most (round binary64 s n 1) (whole-at-most s n h)))
     total
@@ -232,13 +233,11 @@ limit⁻-is : limit⁻ ≡ fin true 345 (pos 1)
 unfolding ofBits ofFields odd trailingZeros
 limit⁻-is = refl
 
-pub limited : (x : Float) → T (le limit⁻ x) → T (le x limit) → T (finite x) × AtMost (fin false 345 (pos 1)) x
+pub limited : (x : Float) → Between limit⁻ limit x → T (finite x) × AtMost (fin false 345 (pos 1)) x
 unfolding neg
-limited x l h =
-    let l' : T (le (fin true 345 (pos 1)) x) = subst (λ (y : Float). T (le y x)) limit⁻-is l in
-    let h' : T (le x (fin false 345 (pos 1))) = subst (λ (y : Float). T (le x y)) limit-is h in
-    let X : T (finite x) = between-finite (fin true 345 (pos 1)) x (fin false 345 (pos 1)) tt tt l' h' in
-    (X, at-most-of (fin false 345 (pos 1)) x X l' h')
+limited x b =
+    let c : Between (fin true 345 (pos 1)) (fin false 345 (pos 1)) x = rw (limit-is, limit⁻-is) at b in
+    (between-finite (fin true 345 (pos 1)) (fin false 345 (pos 1)) x tt tt c, between-at-most (fin false 345 (pos 1)) x c)
 
 pub record Reduced (x : Float) : Type 0 where
   pub minus : Bool
@@ -270,8 +269,7 @@ reduced (fin s m e) X h =
 
 pub exp-reduces : ExpReduces
 unfolding neg
-exp-reduces x l h =
-    let k = limited x l h in
+exp-reduces x b =
+    let k = limited x b in
     let r = reduced x (k .0) (k .1) in
-    let F = at-most-finite 3 (negsuc 2) (expRest x (expWhole x)) (r .rest) in
-    record { minus = r .minus; whole = r .whole; small = r .small; is = r .is; low = at-most-low restMost (expRest x (expWhole x)) F (r .rest); high = at-most-high restMost (expRest x (expWhole x)) F (r .rest) }
+    record { minus = r .minus; whole = r .whole; small = r .small; is = r .is; rest = at-most-between restMost (expRest x (expWhole x)) (r .rest) }

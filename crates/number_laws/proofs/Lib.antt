@@ -1,10 +1,11 @@
-pub mod Signed
-pub mod Apart
-pub mod Bounds
-pub mod Bounded
-pub mod BoundedSums
-pub mod Exactly
-pub mod Scaled
+-- The theorems of specs/, from the order of floats up.
+pub mod Order
+pub mod Rounding
+pub mod Sums
+pub mod Products
+pub mod Within
+pub mod Narrowing
+pub mod ExactValues
 pub mod Placed
 pub mod Multiples
 pub mod Nearest

@@ -6,18 +6,21 @@ use native.Mathlib.Omega.{arith}
 use mathlib.Core.Bool.{Bool, true, false, cond, _&&_}
 use lib.IntN.{ℤ, pos, negsuc}
 use lib.Dec.{T, ltb, leb, eqb, ltb→lt, not-T}
-use lib.Ieee.{Float, nan, inf, fin, binary32, binary64, up, down, add, mul, div, neg, le, ofBits, ofInt, fits, round}
+use lib.Ieee.{Float, nan, inf, fin, binary32, binary64, up, down, add, mul, div, neg, le, ofBits, ofInt, fits, round, isNan}
 use lib.Ieee.Fits.{add-fits, and-r}
 use lib.Ieee.Scale.{finite}
 use Rattle.numbers.specs.Arithmetic.{_⊕_, _⊘_, zero⁺, one, two}
 use Rattle.numbers.specs.Narrow.{nearestF32}
 use Rattle.numbers.specs.Logarithm.{smallestNormal, seriesMost, logSeries, logTwice, logOf, log1pWide, log1pOf}
+use Rattle.numbers.proofs.Value.{finite-no-nan}
 use Rattle.number_laws.specs.LogLaws.{Normal, Log1pFinite, Log1pZeros}
-use Rattle.number_laws.proofs.Signed.{P, N, below→le, le-trans-all}
-use Rattle.number_laws.proofs.Apart.{magnitude}
-use Rattle.number_laws.proofs.Bounded.{AtMost, NotNegative, Between, between-is-finite, at-most-of, at-most-high, at-most-finite, div-at-most, div-not-negative, add-between, magnitude-above, positive-above, nearest-mono, nearest-fits, not-le→lt}
 use Rattle.number_laws.proofs.LogSeries.{quarter, fiveEighths, twice-at-most, twice-finite, twice-not-negative}
 use Rattle.number_laws.proofs.LogLaws.{log-not-negative, log-most}
+use Rattle.number_laws.specs.Values.{magnitude, AtMost, NotNegative, Between}
+use Rattle.number_laws.proofs.Order.{P, N, below→le, le-transitive, not-le→lt, wider, between-finite, between-at-most, at-most-high, at-most-finite, magnitude-above, positive-above}
+use Rattle.number_laws.proofs.Sums.{add-between}
+use Rattle.number_laws.proofs.Products.{div-at-most, div-not-negative}
+use Rattle.number_laws.proofs.Narrowing.{narrow-mono, narrow-fits}
 
 -- ---- a finite f32 is below 2^128
 abbrev beyond : Float
@@ -49,7 +52,7 @@ module _ (w : Float) (F : T (fits binary32 w)) (W : T (finite w)) (p : NotNegati
   one-more = unfold add in add-between binary64 one one zero⁺ beyond one w tt tt tt tt (record { from = unfold le in tt; to = unfold le in tt }) w-between
 
   one-more-normal : Normal (one ⊕ w)
-  one-more-normal = record { held = add-fits binary64 one w; finite-is = between-is-finite one beyond (one ⊕ w) tt tt one-more; least = le-trans-all smallestNormal one (one ⊕ w) (unfold ofBits le in tt) (one-more .from) }
+  one-more-normal = record { held = add-fits binary64 one w; finite-is = between-finite one beyond (one ⊕ w) tt tt one-more; least = le-transitive smallestNormal one (one ⊕ w) (unfold ofBits le in tt) (one-more .from) }
 
   -- ---- s = w / (2 + w), up to w = 0.375
   module _ (h : T (le w seriesMost)) where
@@ -57,16 +60,16 @@ module _ (w : Float) (F : T (fits binary32 w)) (W : T (finite w)) (p : NotNegati
     base-between = unfold add in add-between binary64 two two zero⁺ beyond two w tt tt tt tt (record { from = unfold le in tt; to = unfold le in tt }) w-between
 
     base-finite : T (finite (two ⊕ w))
-    base-finite = between-is-finite two (two ⊕ beyond) (two ⊕ w) tt (unfold add in tt) base-between
+    base-finite = between-finite two (two ⊕ beyond) (two ⊕ w) tt (unfold add in tt) base-between
 
     w-at-most : AtMost (fin false 3 (negsuc 2)) w
     unfolding ofBits
-    w-at-most = at-most-of (fin false 3 (negsuc 2)) w W (le-trans-all (neg (fin false 3 (negsuc 2))) zero⁺ w (unfold neg le in tt) p) h
+    w-at-most = between-at-most (fin false 3 (negsuc 2)) w (record { from = le-transitive (neg (fin false 3 (negsuc 2))) zero⁺ w (unfold neg le in tt) p; to = h })
 
     ratio-at-most : AtMost quarter (w ⊘ (two ⊕ w))
     ratio-at-most =
-        le-trans-all (magnitude (w ⊘ (two ⊕ w))) (fin false 3 (negsuc 2) ⊘ two) quarter
-        (div-at-most binary64 w (two ⊕ w) 3 (negsuc 2) 1 (pos 1) (omega arith) W base-finite w-at-most (le-trans-all two (two ⊕ w) (magnitude (two ⊕ w)) (base-between .from) (magnitude-above (two ⊕ w) base-finite)))
+        le-transitive (magnitude (w ⊘ (two ⊕ w))) (fin false 3 (negsuc 2) ⊘ two) quarter
+        (div-at-most binary64 w (two ⊕ w) (fin false 3 (negsuc 2)) two tt tt w-at-most (le-transitive two (two ⊕ w) (magnitude (two ⊕ w)) (base-between .from) (magnitude-above (two ⊕ w) (finite-no-nan (two ⊕ w) base-finite))))
         (unfold div le in tt)
 
     series-between : Between zero⁺ (fin false 91 (pos 0)) (logTwice (w ⊘ (two ⊕ w)))
@@ -75,7 +78,7 @@ module _ (w : Float) (F : T (fits binary32 w)) (W : T (finite w)) (p : NotNegati
         let S = at-most-finite quarter s tt ratio-at-most in
         record {
           from = twice-not-negative s S ratio-at-most (div-not-negative binary64 w (two ⊕ w) W (positive-above two (two ⊕ w) tt base-finite (base-between .from)) p);
-          to = le-trans-all (logTwice s) fiveEighths (fin false 91 (pos 0)) (at-most-high fiveEighths (logTwice s) (twice-finite s S ratio-at-most) (twice-at-most s S ratio-at-most)) (unfold le in tt);
+          to = le-transitive (logTwice s) fiveEighths (fin false 91 (pos 0)) (at-most-high fiveEighths (logTwice s) (twice-at-most s S ratio-at-most)) (unfold le in tt);
         }
 
   -- ---- either way
@@ -88,18 +91,18 @@ module _ (w : Float) (F : T (fits binary32 w)) (W : T (finite w)) (p : NotNegati
 
   narrow-between : Between zero⁺ (fin false 91 (pos 0)) (log1pOf w)
   unfolding log1pOf nearestF32 round
-  narrow-between = record { from = nearest-mono zero⁺ (log1pWide w) (wide-between .from); to = nearest-mono (log1pWide w) (fin false 91 (pos 0)) (wide-between .to) }
+  narrow-between = record { from = narrow-mono zero⁺ (log1pWide w) (wide-between .from); to = narrow-mono (log1pWide w) (fin false 91 (pos 0)) (wide-between .to) }
 
 pub log1p-finite : Log1pFinite
 log1p-finite w F W p =
     let b = narrow-between w F W p in
-    let L = between-is-finite zero⁺ (fin false 91 (pos 0)) (log1pOf w) tt tt b in
+    let L = between-finite zero⁺ (fin false 91 (pos 0)) (log1pOf w) tt tt b in
     record {
-      held = unfold log1pOf in nearest-fits (log1pWide w);
+      held = unfold log1pOf in narrow-fits (log1pWide w);
       finite-is = L;
       not-negative = b .from;
       most = b .to;
-      below = not-le→lt (log1pOf w) (fin false 1 (pos 9)) L tt (not-T (le (fin false 1 (pos 9)) (log1pOf w)) (λ (l : T (le (fin false 1 (pos 9)) (log1pOf w))). unfold le in le-trans-all (fin false 1 (pos 9)) (log1pOf w) (fin false 91 (pos 0)) l (b .to)));
+      below = not-le→lt (log1pOf w) (fin false 1 (pos 9)) (finite-no-nan (log1pOf w) L) (unfold isNan in tt) (not-T (le (fin false 1 (pos 9)) (log1pOf w)) (λ (l : T (le (fin false 1 (pos 9)) (log1pOf w))). unfold le in le-transitive (fin false 1 (pos 9)) (log1pOf w) (fin false 91 (pos 0)) l (b .to)));
     }
 
 pub log1p-zeros : Log1pZeros

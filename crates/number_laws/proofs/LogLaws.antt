@@ -5,71 +5,73 @@ use native.Mathlib.Omega.{arith}
 use mathlib.Core.Bool.{Bool, true, false, not, cond}
 use lib.IntN.{ℤ, pos, negsuc}
 use lib.Dec.{T}
-use lib.Ieee.{Float, nan, inf, fin, binary64, add, sub, mul, div, neg, lt, le, ofBits}
+use lib.Ieee.{Float, nan, inf, fin, binary64, add, sub, mul, div, neg, lt, le, ofBits, isNan}
 use lib.Ieee.Bits.{is-true}
+use lib.Ieee.Positive.{positive, positive-finite}
 use lib.Ieee.Scale.{finite}
 use Rattle.numbers.specs.Arithmetic.{_⊕_, _⊖_, _⊗_, _⊘_, zero⁺, one, two}
 use Rattle.numbers.specs.Exponential.{hi, lo, ln10}
 use Rattle.numbers.specs.Logarithm.{smallestNormal, sqrt2, half, mantissa, exponent, logTwice, logAt, logHalved, logOf, log10Of}
+use Rattle.numbers.proofs.Value.{finite-no-nan}
 use Rattle.number_laws.specs.LogLaws.{Normal, LogFinite, LogNotNegative, LogMost, Log10Finite, Log10Infinite}
-use Rattle.number_laws.proofs.Signed.{le-trans-all, sub-mono, sub-nonneg, add-mono, lt→le, not-lt→le, between-finite}
-use Rattle.number_laws.proofs.Apart.{magnitude}
-use Rattle.number_laws.proofs.Bounded.{AtMost, NotNegative, Between, wider, between-is-finite, between-of-at-most, at-most-of, at-most-low, at-most-high, at-most-finite, div-at-most, div-not-negative, add-between, mul-between-by, magnitude-above, positive-above}
 use Rattle.number_laws.proofs.Mantissa.{mantissa-range, exponent-range, exponent-from-one, exponent-to-128}
 use Rattle.number_laws.proofs.LogSeries.{quarter, fiveEighths, twice-at-most, twice-finite, twice-not-negative}
+use Rattle.number_laws.specs.Values.{magnitude, AtMost, NotNegative, Between}
+use Rattle.number_laws.proofs.Order.{le-transitive, lt→le, not-lt→le, wider, between-finite, at-most-between, between-at-most, at-most-finite, magnitude-above, positive-above}
+use Rattle.number_laws.proofs.Sums.{sub-mono, sub-not-negative, add-mono, add-between}
+use Rattle.number_laws.proofs.Products.{div-at-most, div-not-negative, mul-between-by}
 
 -- ---- s = (m − 1) / (m + 1)
 abbrev ratio : Float → Float
 ratio m = (m ⊖ one) ⊘ (m ⊕ one)
 
 -- l ≤ m ≤ u, with l and u within b of 1 and l + 1 ≥ c, gives |s| ≤ b / c
-module _ (l u m : Float) (o : ℕ) (g : ℤ) (p : ℕ) (h : ℤ) (P : 0 < p) (L : T (finite l)) (U : T (finite u)) (m-in : Between l u m)
-    (low : T (le (fin true o g) (l ⊖ one))) (high : T (le (u ⊖ one) (fin false o g))) (base : T (le (fin false p h) (l ⊕ one))) (top : T (finite (u ⊕ one))) where
+module _ (l u m : Float) (b c : Float) (B : T (finite b)) (C : T (positive c)) (L : T (finite l)) (U : T (finite u)) (m-in : Between l u m)
+    (low : T (le (neg b) (l ⊖ one))) (high : T (le (u ⊖ one) b)) (base : T (le c (l ⊕ one))) (top : T (finite (u ⊕ one))) where
   m-finite : T (finite m)
-  m-finite = between-is-finite l u m L U m-in
+  m-finite = between-finite l u m L U m-in
 
-  top-between : Between (fin true o g) (fin false o g) (m ⊖ one)
+  top-between : Between (neg b) b (m ⊖ one)
   top-between = record {
-    from = le-trans-all (fin true o g) (l ⊖ one) (m ⊖ one) low (sub-mono binary64 l m one L m-finite tt (m-in .from));
-    to = le-trans-all (m ⊖ one) (u ⊖ one) (fin false o g) (sub-mono binary64 m u one m-finite U tt (m-in .to)) high;
+    from = le-transitive (neg b) (l ⊖ one) (m ⊖ one) low (sub-mono binary64 l m one L m-finite tt (m-in .from));
+    to = le-transitive (m ⊖ one) (u ⊖ one) b (sub-mono binary64 m u one m-finite U tt (m-in .to)) high;
   }
 
-  base-between : Between (fin false p h) (u ⊕ one) (m ⊕ one)
+  base-between : Between c (u ⊕ one) (m ⊕ one)
   base-between = record {
-    from = le-trans-all (fin false p h) (l ⊕ one) (m ⊕ one) base (add-mono binary64 l m one one L m-finite tt tt (m-in .from) (unfold le in tt));
+    from = le-transitive c (l ⊕ one) (m ⊕ one) base (add-mono binary64 l m one one L m-finite tt tt (m-in .from) (unfold le in tt));
     to = add-mono binary64 m u one one m-finite U tt tt (m-in .to) (unfold le in tt);
   }
 
   base-finite : T (finite (m ⊕ one))
-  base-finite = between-is-finite (fin false p h) (u ⊕ one) (m ⊕ one) tt top base-between
+  base-finite = between-finite c (u ⊕ one) (m ⊕ one) (positive-finite c C) top base-between
 
-  ratio-at-most : AtMost (fin false o g ⊘ fin false p h) (ratio m)
+  ratio-at-most : AtMost (b ⊘ c) (ratio m)
   ratio-at-most =
-      let M = between-is-finite (fin true o g) (fin false o g) (m ⊖ one) tt tt top-between in
-      div-at-most binary64 (m ⊖ one) (m ⊕ one) o g p h P M base-finite (at-most-of (fin false o g) (m ⊖ one) M (unfold neg in top-between .from) (top-between .to))
-      (le-trans-all (fin false p h) (m ⊕ one) (magnitude (m ⊕ one)) (base-between .from) (magnitude-above (m ⊕ one) base-finite))
+      div-at-most binary64 (m ⊖ one) (m ⊕ one) b c B C (between-at-most b (m ⊖ one) top-between)
+      (le-transitive c (m ⊕ one) (magnitude (m ⊕ one)) (base-between .from) (magnitude-above (m ⊕ one) (finite-no-nan (m ⊕ one) base-finite)))
 
 -- m from 1 to √2, and from √2 / 2 to 1
 plain-ratio : (m : Float) → Between one sqrt2 m → AtMost quarter (ratio m)
-unfolding ofBits sub add le div
-plain-ratio m b = ratio-at-most one sqrt2 m 1 (negsuc 0) 1 (pos 1) (omega arith) tt tt b tt tt tt tt
+unfolding ofBits sub add le div neg
+plain-ratio m b = ratio-at-most one sqrt2 m half two tt tt tt tt b tt tt tt tt
 
 halved-ratio : (m : Float) → Between (sqrt2 ⊗ half) one m → AtMost quarter (ratio m)
-unfolding ofBits sub add le div mul
-halved-ratio m b = ratio-at-most (sqrt2 ⊗ half) one m 3 (negsuc 2) 3 (negsuc 0) (omega arith) tt tt b tt tt tt tt
+unfolding ofBits sub add le div mul neg
+halved-ratio m b = ratio-at-most (sqrt2 ⊗ half) one m (fin false 3 (negsuc 2)) (fin false 3 (negsuc 0)) tt tt tt tt b tt tt tt tt
 
 -- s is not negative from m = 1 on
 plain-ratio-not-negative : (m : Float) → Between one sqrt2 m → NotNegative (ratio m)
 plain-ratio-not-negative m b =
-    let M : T (finite m) = between-is-finite one sqrt2 m tt (unfold ofBits in tt) b in
+    let M : T (finite m) = between-finite one sqrt2 m tt (unfold ofBits in tt) b in
     let d : Between two (sqrt2 ⊕ one) (m ⊕ one) = base-of m b in
-    let D : T (finite (m ⊕ one)) = between-is-finite two (sqrt2 ⊕ one) (m ⊕ one) tt (unfold ofBits add in tt) d in
-    let n : NotNegative (m ⊖ one) = sub-nonneg binary64 m one M tt (b .from) in
-    div-not-negative binary64 (m ⊖ one) (m ⊕ one) (between-finite zero⁺ (m ⊖ one) (sqrt2 ⊖ one) tt (unfold ofBits sub in tt) n (sub-mono binary64 m sqrt2 one M (unfold ofBits in tt) tt (b .to)))
+    let D : T (finite (m ⊕ one)) = between-finite two (sqrt2 ⊕ one) (m ⊕ one) tt (unfold ofBits add in tt) d in
+    let n : NotNegative (m ⊖ one) = sub-not-negative binary64 m one M tt (b .from) in
+    div-not-negative binary64 (m ⊖ one) (m ⊕ one) (between-finite zero⁺ (sqrt2 ⊖ one) (m ⊖ one) tt (unfold ofBits sub in tt) (record { from = n; to = sub-mono binary64 m sqrt2 one M (unfold ofBits in tt) tt (b .to) }))
     (positive-above two (m ⊕ one) tt D (d .from)) n
   where
     base-of : (m : Float) → Between one sqrt2 m → Between two (sqrt2 ⊕ one) (m ⊕ one)
-    base-of m b = unfold ofBits add sub le in base-between one sqrt2 m 1 (negsuc 0) 1 (pos 1) (omega arith) tt tt b tt tt tt tt
+    base-of m b = unfold ofBits add sub le neg in base-between one sqrt2 m half two tt tt tt tt b tt tt tt tt
 
 -- ---- e × hi + (e × lo + t), for an e from a to b and a t = 2 × (s × q) from c to d
 abbrev total : Float → Float → Float
@@ -96,7 +98,7 @@ fiveEighths⁻ = fin true 5 (negsuc 2)
 
 twice-between : (m : Float) → AtMost quarter (ratio m) → Between fiveEighths⁻ fiveEighths (logTwice (ratio m))
 unfolding neg
-twice-between m s = let S = at-most-finite quarter (ratio m) tt s in between-of-at-most fiveEighths (logTwice (ratio m)) (twice-finite (ratio m) S s) (twice-at-most (ratio m) S s)
+twice-between m s = let S = at-most-finite quarter (ratio m) tt s in at-most-between fiveEighths (logTwice (ratio m)) (twice-at-most (ratio m) S s)
 
 tame-low : Tame lowest fiveEighths⁻
 unfolding ofBits mul add
@@ -118,13 +120,13 @@ at-bounded m e s b = wider (total lowest fiveEighths⁻) (total highest fiveEigh
 
 -- e up to 129
 at-most-91 : (m e : Float) → AtMost quarter (ratio m) → Between lowest (fin false 129 (pos 0)) e → T (le (logAt m e) (fin false 91 (pos 0)))
-at-most-91 m e s b = le-trans-all (logAt m e) (total (fin false 129 (pos 0)) fiveEighths) (fin false 91 (pos 0))
+at-most-91 m e s b = le-transitive (logAt m e) (total (fin false 129 (pos 0)) fiveEighths) (fin false 91 (pos 0))
     (total-between lowest (fin false 129 (pos 0)) fiveEighths⁻ fiveEighths e (logTwice (ratio m)) tame-low (unfold ofBits mul add in (tt, tt, tt, tt, tt)) b (twice-between m s) .to)
     (unfold ofBits mul add le in tt)
 
 -- e from 1 on: hi is above 5/8
 at-not-negative : (m e : Float) → AtMost quarter (ratio m) → Between one highest e → NotNegative (logAt m e)
-at-not-negative m e s b = le-trans-all zero⁺ (total one fiveEighths⁻) (logAt m e) (unfold ofBits mul add le in tt)
+at-not-negative m e s b = le-transitive zero⁺ (total one fiveEighths⁻) (logAt m e) (unfold ofBits mul add le in tt)
     (total-between one highest fiveEighths⁻ fiveEighths e (logTwice (ratio m)) (unfold ofBits mul add in (tt, tt, tt, tt, tt)) tame-high b (twice-between m s) .from)
 
 -- e from 0 on and m from 1 on: no part is negative
@@ -133,7 +135,7 @@ parts-not-negative m e m-in b =
     let s = plain-ratio m m-in in
     let S = at-most-finite quarter (ratio m) tt s in
     let n = twice-not-negative (ratio m) S s (plain-ratio-not-negative m m-in) in
-    le-trans-all zero⁺ (total zero⁺ zero⁺) (logAt m e) (unfold ofBits mul add le in tt)
+    le-transitive zero⁺ (total zero⁺ zero⁺) (logAt m e) (unfold ofBits mul add le in tt)
     (total-between zero⁺ highest zero⁺ fiveEighths e (logTwice (ratio m)) (unfold ofBits mul add in (tt, tt, tt, tt, tt)) tame-high b (record { from = n; to = twice-between m s .to }) .from)
 
 -- ---- L of a positive normal v is one of two such sums
@@ -155,7 +157,7 @@ by-cases R v n h k = rw (log-is v n) (go (lt sqrt2 (mantissa v)) h k)
 
 module _ (v : Float) (n : Normal v) where
   mantissa-finite : T (finite (mantissa v))
-  mantissa-finite = between-finite one (mantissa v) two tt tt (mantissa-range v n .0) (mantissa-range v n .1)
+  mantissa-finite = between-finite one two (mantissa v) tt tt (record { from = mantissa-range v n .0; to = mantissa-range v n .1 })
 
   halved-mantissa : T (lt sqrt2 (mantissa v)) → AtMost quarter (ratio (mantissa v ⊗ half))
   halved-mantissa h = halved-ratio (mantissa v ⊗ half) (to-one (mul-between-by binary64 sqrt2 two (mantissa v) half (unfold ofBits in tt) tt (unfold ofBits in tt) (unfold ofBits le in tt) (record { from = lt→le sqrt2 (mantissa v) h; to = mantissa-range v n .1 })))
@@ -164,7 +166,7 @@ module _ (v : Float) (n : Normal v) where
       to-one b = wider (sqrt2 ⊗ half) (two ⊗ half) (sqrt2 ⊗ half) one (mantissa v ⊗ half) (unfold ofBits mul le in tt) (unfold ofBits mul le in tt) b
 
   plain-mantissa : T (not (lt sqrt2 (mantissa v))) → Between one sqrt2 (mantissa v)
-  plain-mantissa h = record { from = mantissa-range v n .0; to = not-lt→le sqrt2 (mantissa v) (unfold ofBits in tt) mantissa-finite h }
+  plain-mantissa h = record { from = mantissa-range v n .0; to = not-lt→le sqrt2 (mantissa v) (unfold ofBits isNan in tt) (finite-no-nan (mantissa v) mantissa-finite) h }
 
   -- e + 1, and e itself
   exponent-between : Between lowest (fin false 1023 (pos 0)) (exponent v)
@@ -180,7 +182,7 @@ module _ (v : Float) (n : Normal v) where
       (λ h. at-bounded (mantissa v) (exponent v) (plain-ratio (mantissa v) (plain-mantissa h)) (wider lowest (fin false 1023 (pos 0)) lowest highest (exponent v) (unfold le in tt) (unfold le in tt) exponent-between))
 
 pub log-finite : LogFinite
-log-finite v n = let b = log-between v n in record { finite-is = between-is-finite (fin true 711 (pos 0)) (fin false 711 (pos 0)) (logOf v) tt tt b; from = b .from; to = b .to }
+log-finite v n = let b = log-between v n in record { finite-is = between-finite (fin true 711 (pos 0)) (fin false 711 (pos 0)) (logOf v) tt tt b; from = b .from; to = b .to }
 
 pub log-not-negative : LogNotNegative
 log-not-negative v n h =
@@ -202,12 +204,11 @@ log-most v n h =
 pub log10-finite : Log10Finite
 unfolding log10Of neg
 log10-finite v n =
-    let l = log-finite v n in
-    let a : AtMost (fin false 711 (pos 0)) (logOf v) = at-most-of (fin false 711 (pos 0)) (logOf v) (l .finite-is) (l .from) (l .to) in
-    let d = div-at-most binary64 (logOf v) ln10 711 (pos 0) 2357 (negsuc 9) (omega arith) (l .finite-is) (unfold ofBits in tt) a (unfold ofBits magnitude le in tt) in
-    let q : AtMost (fin false 309 (pos 0)) (logOf v ⊘ ln10) = le-trans-all (magnitude (logOf v ⊘ ln10)) (fin false 711 (pos 0) ⊘ fin false 2357 (negsuc 9)) (fin false 309 (pos 0)) d (unfold div le in tt) in
-    let Q = at-most-finite (fin false 309 (pos 0)) (logOf v ⊘ ln10) tt q in
-    record { finite-is = Q; from = at-most-low (fin false 309 (pos 0)) (logOf v ⊘ ln10) Q q; to = at-most-high (fin false 309 (pos 0)) (logOf v ⊘ ln10) Q q }
+    let l = log-between v n in
+    let d = div-at-most binary64 (logOf v) ln10 (fin false 711 (pos 0)) (fin false 2357 (negsuc 9)) tt tt (between-at-most (fin false 711 (pos 0)) (logOf v) l) (unfold ofBits magnitude le in tt) in
+    let q : AtMost (fin false 309 (pos 0)) (logOf v ⊘ ln10) = le-transitive (magnitude (logOf v ⊘ ln10)) (fin false 711 (pos 0) ⊘ fin false 2357 (negsuc 9)) (fin false 309 (pos 0)) d (unfold div le in tt) in
+    let b = at-most-between (fin false 309 (pos 0)) (logOf v ⊘ ln10) q in
+    record { finite-is = at-most-finite (fin false 309 (pos 0)) (logOf v ⊘ ln10) tt q; from = b .from; to = b .to }
 
 pub log10-infinite : Log10Infinite
 unfolding log10Of logOf ofBits le lt div

@@ -9,10 +9,12 @@ use lib.Ieee.{Float, fin, binary64, add, mul, div, le, ofInt, neg}
 use lib.Ieee.Scale.{finite}
 use Rattle.numbers.specs.Arithmetic.{_⊕_, _⊗_, _⊘_, zero⁺, one, two}
 use Rattle.numbers.specs.Logarithm.{logSeries, logTwice}
-use Rattle.number_laws.proofs.Signed.{le-trans-all}
-use Rattle.number_laws.proofs.Apart.{magnitude}
-use Rattle.number_laws.proofs.Bounded.{AtMost, NotNegative, Between, wider, between-is-finite, at-most-high, at-most-of, at-most-finite, mul-at-most, div-at-most, div-not-negative, mul-not-negative, square-not-negative, add-between, mul-between, magnitude-above, positive-above}
+use Rattle.numbers.proofs.Value.{finite-no-nan}
 use Rattle.number_laws.proofs.Mantissa.{whole-finite, whole-mono}
+use Rattle.number_laws.specs.Values.{magnitude, AtMost, NotNegative, Between}
+use Rattle.number_laws.proofs.Order.{le-transitive, wider, between-finite, between-at-most, at-most-high, at-most-finite, magnitude-above, positive-above}
+use Rattle.number_laws.proofs.Sums.{add-between}
+use Rattle.number_laws.proofs.Products.{mul-at-most, div-at-most, div-not-negative, mul-not-negative, square-not-negative, mul-between}
 
 -- ---- the bounds
 abbrev pub quarter : Float
@@ -41,10 +43,10 @@ inverse-between k h b =
     let n = ofInt binary64 (pos k) in
     let N = whole-finite k b in
     let g = from-one k h in
-    let a : AtMost one (one ⊘ n) = rw one-over-one at (div-at-most binary64 one n 1 (pos 0) 1 (pos 0) (omega arith) tt N (unfold magnitude le in tt) (le-trans-all one n (magnitude n) g (magnitude-above n N))) in
+    let a : AtMost one (one ⊘ n) = rw one-over-one at (div-at-most binary64 one n one one tt tt (unfold magnitude le in tt) (le-transitive one n (magnitude n) g (magnitude-above n (finite-no-nan n N)))) in
     record {
       from = div-not-negative binary64 one n tt (positive-above one n tt N g) (unfold le in tt);
-      to = at-most-high one (one ⊘ n) (at-most-finite one (one ⊘ n) tt a) a;
+      to = at-most-high one (one ⊘ n) a;
     }
 
 -- one step
@@ -86,26 +88,26 @@ twice-high = refl
 module _ (s : Float) (S : T (finite s)) (small : AtMost quarter s) where
   square-between : Between zero⁺ sixteenth (s ⊗ s)
   square-between =
-      let a : AtMost sixteenth (s ⊗ s) = rw square-high at (mul-at-most binary64 s s 1 (negsuc 1) 1 (negsuc 1) S S small small) in
-      record { from = square-not-negative binary64 s S; to = at-most-high sixteenth (s ⊗ s) (at-most-finite sixteenth (s ⊗ s) tt a) a }
+      let a : AtMost sixteenth (s ⊗ s) = rw square-high at (mul-at-most binary64 s s quarter quarter tt tt small small) in
+      record { from = square-not-negative binary64 s S; to = at-most-high sixteenth (s ⊗ s) a }
 
   sum-between : Between zero⁺ most (logSeries 12 (s ⊗ s) zero⁺)
   sum-between = series-between 12 (omega arith) (s ⊗ s) zero⁺ square-between (record { from = zero-is-low; to = unfold le in tt })
 
   sum-finite : T (finite (logSeries 12 (s ⊗ s) zero⁺))
-  sum-finite = between-is-finite zero⁺ most (logSeries 12 (s ⊗ s) zero⁺) tt tt sum-between
+  sum-finite = between-finite zero⁺ most (logSeries 12 (s ⊗ s) zero⁺) tt tt sum-between
 
   sum-at-most : AtMost most (logSeries 12 (s ⊗ s) zero⁺)
-  sum-at-most = at-most-of most (logSeries 12 (s ⊗ s) zero⁺) sum-finite (le-trans-all (neg most) zero⁺ (logSeries 12 (s ⊗ s) zero⁺) (unfold neg le in tt) (sum-between .from)) (sum-between .to)
+  sum-at-most = between-at-most most (logSeries 12 (s ⊗ s) zero⁺) (wider zero⁺ most (neg most) most (logSeries 12 (s ⊗ s) zero⁺) (unfold neg le in tt) (unfold le in tt) sum-between)
 
   product-at-most : AtMost (fin false 5 (negsuc 3)) (s ⊗ logSeries 12 (s ⊗ s) zero⁺)
-  product-at-most = rw product-high at (mul-at-most binary64 s (logSeries 12 (s ⊗ s) zero⁺) 1 (negsuc 1) 5 (negsuc 1) S sum-finite small sum-at-most)
+  product-at-most = rw product-high at (mul-at-most binary64 s (logSeries 12 (s ⊗ s) zero⁺) quarter most tt tt small sum-at-most)
 
   product-finite : T (finite (s ⊗ logSeries 12 (s ⊗ s) zero⁺))
   product-finite = at-most-finite (fin false 5 (negsuc 3)) (s ⊗ logSeries 12 (s ⊗ s) zero⁺) tt product-at-most
 
   pub twice-at-most : AtMost fiveEighths (logTwice s)
-  twice-at-most = rw twice-high at (mul-at-most binary64 two (s ⊗ logSeries 12 (s ⊗ s) zero⁺) 1 (pos 1) 5 (negsuc 3) tt product-finite (unfold magnitude le in tt) product-at-most)
+  twice-at-most = rw twice-high at (mul-at-most binary64 two (s ⊗ logSeries 12 (s ⊗ s) zero⁺) two (fin false 5 (negsuc 3)) tt tt (unfold magnitude le in tt) product-at-most)
 
   pub twice-finite : T (finite (logTwice s))
   twice-finite = at-most-finite fiveEighths (logTwice s) tt twice-at-most

@@ -21,8 +21,8 @@ use Rattle.numbers.specs.Exponential.{bias}
 use Rattle.numbers.specs.Logarithm.{smallestNormal, mantissa, exponent}
 use Rattle.numbers.proofs.Value.{field-under, value-low, value-high, by-fields, at-some}
 use Rattle.number_laws.specs.LogLaws.{Normal, Splits}
-use Rattle.number_laws.proofs.Signed.{sub-mono}
-use Rattle.number_laws.proofs.Bounded.{positive-above}
+use Rattle.number_laws.proofs.Order.{positive-above}
+use Rattle.number_laws.proofs.Sums.{sub-mono}
 
 -- ---- v by its fields: 4503599627370496 is 2^52, 9223372036854775808 is 2^63 and 4607182418800017408 is 1023 × 2^52
 smallest-is : smallestNormal ≡ fin false 1 (negsuc 1021)
@@ -186,10 +186,10 @@ by-power d k =
     ∙ regroup d (2 ^ suc k) (down e) (2 ^ 51) ∙ ap (λ (x : ℕ). d * x * (2 ^ 51 * down e)) (pow-succ' 2 k) ∙ doubled d (2 ^ k) (2 ^ 51) (down e)
   where
     regroup : (d p w b : ℕ) → d * p * w * b ≡ d * p * (b * w)
-    regroup d p w b = simp (mul-assoc, mul-comm, mul-left-comm)
+    regroup d p w b = simp (mul-assoc, mul-comm)
 
     doubled : (d p b w : ℕ) → d * (2 * p) * (b * w) ≡ d * p * (2 * b * w)
-    doubled d p b w = simp (mul-assoc, mul-comm, mul-left-comm)
+    doubled d p b w = simp (mul-assoc, mul-left-comm)
 
 pub splits : Splits
 splits v n =

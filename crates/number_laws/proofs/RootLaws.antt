@@ -16,10 +16,11 @@ use lib.Ieee.Scale.{finite}
 use Rattle.numbers.specs.Arithmetic.{zero⁺}
 use Rattle.numbers.specs.Root.{rootFrom, nearRoot, rootUnits, rootOf}
 use Rattle.numbers.proofs.root.Rooted.{root-value, root-fits, root-closest, root-positive, A}
+use Rattle.numbers.proofs.Value.{finite-no-nan}
 use Rattle.number_laws.specs.Values.{Units}
 use Rattle.number_laws.specs.RootLaws.{NearestRoot, RootNearest, RootMonotone, leastNormal, leastNormalRoot, RootNormal}
-use Rattle.number_laws.proofs.Signed.{P, N, fromS, toS, le-trans-all}
 use Rattle.number_laws.proofs.Placed.{placed, placed-units, units-finite}
+use Rattle.number_laws.proofs.Order.{P, N, fromS, toS, le-transitive, most-of-all, positive-above}
 
 -- ---- the nearest
 positive-sign : (x : Float) (s : Bool) (n : ℕ) → T (positive x) → Units binary64 x s n → s ≡ false
@@ -118,12 +119,6 @@ root-not-negative y F h = elim (kind y h) [
   | inr (inr e) ↦ subst (λ (v : Float). T (le zero⁺ v)) (sym (ap rootOf e ∙ root-of-infinity)) (unfold le in tt)
 ]
 
-under-infinity : (x : Float) → T (finite x) → T (le x (inf false))
-unfolding le
-under-infinity nan f = absurd f
-under-infinity (inf s) f = absurd f
-under-infinity (fin s m e) f = tt
-
 above-infinity : (y : Float) → T (le (inf false) y) → y ≡ inf false
 unfolding le
 above-infinity nan h = absurd h
@@ -133,18 +128,18 @@ above-infinity (fin s m e) h = absurd h
 
 positive-mono : (x y : Float) → T (fits binary64 x) → T (fits binary64 y) → T (positive x) → T (le zero⁺ y) → T (le x y) → T (le (rootOf x) (rootOf y))
 positive-mono x y F G p h k = elim (kind y h) [
-  | inl z ↦ absurd (above-of-le x zero⁺ p (le-trans-all x y zero⁺ k (z .1)))
+  | inl z ↦ absurd (above-of-le x zero⁺ p (le-transitive x y zero⁺ k (z .1)))
   | inr (inl q) ↦ nearest-mono x y (rootOf x) (rootOf y) p q (positive-nearest x F p) (positive-nearest y G q) k
   | inr (inr e) ↦
       let n = positive-nearest x F p in
-      subst (λ (v : Float). T (le (rootOf x) v)) (sym (ap rootOf e ∙ root-of-infinity)) (under-infinity (rootOf x) (units-finite binary64 (rootOf x) false (n .root) (n .value)))
+      subst (λ (v : Float). T (le (rootOf x) v)) (sym (ap rootOf e ∙ root-of-infinity)) (most-of-all (rootOf x) (finite-no-nan (rootOf x) (units-finite binary64 (rootOf x) false (n .root) (n .value))))
 ]
 
 pub root-monotone : RootMonotone
 root-monotone x y F G h k =
-    let y-not : T (le zero⁺ y) = le-trans-all zero⁺ x y h k in
+    let y-not : T (le zero⁺ y) = le-transitive zero⁺ x y h k in
     elim (kind x h) [
-      | inl z ↦ subst (λ (v : Float). T (le v (rootOf y))) (sym (z .0)) (le-trans-all x zero⁺ (rootOf y) (z .1) (root-not-negative y G y-not))
+      | inl z ↦ subst (λ (v : Float). T (le v (rootOf y))) (sym (z .0)) (le-transitive x zero⁺ (rootOf y) (z .1) (root-not-negative y G y-not))
       | inr (inl p) ↦ positive-mono x y F G p y-not k
       | inr (inr e) ↦ subst (λ (v : Float). T (le (rootOf x) (rootOf v))) (e ∙ sym (above-infinity y (subst (λ (v : Float). T (le v y)) e k))) (subst (λ (v : Float). T (le v v)) (sym (ap rootOf e ∙ root-of-infinity)) (unfold le in tt))
     ]
@@ -160,17 +155,11 @@ least-normal-fits = tt
 
 pub root-normal : RootNormal
 root-normal x F f h =
-    let p : T (positive x) = positive-from x f (above-of-le leastNormal x tt h) in
+    let p : T (positive x) = positive-above leastNormal x tt f h in
     let n = positive-nearest x F p in
     let l : T (le leastNormalRoot (rootOf x)) = subst (λ (v : Float). T (le v (rootOf x))) root-of-least-normal (root-monotone leastNormal x least-normal-fits F (unfold le in tt) h) in
     record {
       finite-is = units-finite binary64 (rootOf x) false (n .root) (n .value);
       large = l;
-      normal = le-trans-all leastNormal leastNormalRoot (rootOf x) (unfold le in tt) l;
+      normal = le-transitive leastNormal leastNormalRoot (rootOf x) (unfold le in tt) l;
     }
-  where
-    positive-from : (z : Float) → T (finite z) → T (above z) → T (positive z)
-    positive-from nan g k = absurd g
-    positive-from (inf s) g k = absurd g
-    positive-from (fin true m e) g k = absurd k
-    positive-from (fin false m e) g k = k

@@ -17,7 +17,9 @@ use lib.Ieee.Bits.{is-true, is-false}
 use Rattle.numbers.specs.Arithmetic.{_⊕_, one}
 use Rattle.numbers.specs.Exponential.{twoTo, bias, fieldMost}
 use Rattle.number_laws.specs.ExpLaws.{PowerOfTwo}
-use Rattle.number_laws.proofs.Signed.{P, N, Is, Sums, add-sums}
+use Rattle.number_laws.proofs.Order.{P, N}
+use Rattle.number_laws.proofs.Rounding.{Is, Sums}
+use Rattle.number_laws.proofs.Sums.{add-sums}
 
 one-pos : 0 < 1
 one-pos = omega arith

@@ -11,10 +11,13 @@ use lib.Ieee.{Float, nan, inf, fin, binary64, up, down, round, fits, le, ofBits}
 use lib.Ieee.Fits.{down-pos, round-fits, and-l, and-r}
 use lib.Ieee.Exact.{HasValue, round-exact}
 use lib.Ieee.Back.{round-whole, whole-unique}
+use lib.Ieee.Scale.{finite}
 use lib.Ieee.Order.{transfer, le-of-values}
 use Rattle.numbers.specs.Whole.{halfUp, upward, wholeNearest, wholeBelow, wholeAbove}
-use Rattle.number_laws.specs.WholeLaws.{Nearest, Cut, Raised, RoundsTo, FloorsTo, CeilsTo, GivesWhole, KeepsWhole, KeepsZero, Monotone, LargestBelow, SmallestAbove, MinusZero}
-use Rattle.number_laws.proofs.Signed.{P, N, Is, sided, round-sided, signed-mono, le→below, below→le}
+use Rattle.number_laws.specs.Values.{Number, Monotone}
+use Rattle.number_laws.specs.WholeLaws.{Nearest, Cut, Raised, RoundsTo, FloorsTo, CeilsTo, GivesWhole, KeepsWhole, KeepsZero, LargestBelow, SmallestAbove, MinusZero}
+use Rattle.number_laws.proofs.Order.{P, N, le→below, below→le, monotone-of-finite}
+use Rattle.number_laws.proofs.Rounding.{signed-mono, round-sided, sided-number, is-own}
 
 -- ---- n less than one from a / c
 abbrev Close : ℕ → ℕ → ℕ → Type 0
@@ -140,26 +143,8 @@ pub record Rounder (rule : Bool → ℕ → ℕ → ℕ → Type 0) (f : Float �
   pub at-infinite : (s : Bool) → f (inf s) ≡ inf s
 
 -- ---- the order of what is rounded
-is-own : (s : Bool) (n : ℕ) → Is s n (P s n) (N s n)
-is-own true n = omega arith
-is-own false n = omega arith
-
 round-ordered : (s t : Bool) (n k : ℕ) → P s n + N t k ≤ P t k + N s n → T (le (round binary64 s n 1) (round binary64 t k 1))
 round-ordered s t n k h = signed-mono binary64 s n (P s n) (N s n) 1 t k (P t k) (N t k) 1 one-pos one-pos (is-own s n) (is-own t k) (omega arith)
-
-lowest : (s : Bool) (x : Float) → T (sided s x) → T (le (inf true) x)
-unfolding le
-lowest s nan h = absurd h
-lowest s (inf true) h = tt
-lowest s (inf false) h = tt
-lowest s (fin t m e) h = tt
-
-highest : (s : Bool) (x : Float) → T (sided s x) → T (le x (inf false))
-unfolding le
-highest s nan h = absurd h
-highest s (inf true) h = tt
-highest s (inf false) h = tt
-highest s (fin t m e) h = tt
 
 -- no whole number is beside 0 / c but 0
 none : (a c n d : ℕ) → 0 < d → a * d ≡ 0 → Close a c n → n ≡ 0
@@ -190,15 +175,19 @@ module _ (rule : Bool → ℕ → ℕ → ℕ → Type 0) (f : Float → Float) 
       omega arith
 
   pub monotone : Monotone f
-  monotone nan y h = absurd (unfold le in h)
-  monotone (inf s) nan h = absurd (unfold le in h)
-  monotone (inf s) (inf t) h = rw (r .at-infinite s, r .at-infinite t) h
-  monotone (inf true) (fin t n d) h = rw (r .at-infinite true, r .at-finite t n d) (lowest t (round binary64 t (at t n d) 1) (round-sided binary64 t (at t n d) 1))
-  monotone (inf false) (fin t n d) h = absurd (unfold le in h)
-  monotone (fin s m e) nan h = absurd (unfold le in h)
-  monotone (fin s m e) (inf true) h = absurd (unfold le in h)
-  monotone (fin s m e) (inf false) h = rw (r .at-infinite false, r .at-finite s m e) (highest s (round binary64 s (at s m e) 1) (round-sided binary64 s (at s m e) 1))
-  monotone (fin s m e) (fin t n d) h = rw (r .at-finite s m e, r .at-finite t n d) (round-ordered s t (at s m e) (at t n d) (ordered s m e t n d (le→below (fin s m e) (fin t n d) tt tt h)))
+  monotone = monotone-of-finite f (r .at-infinite) number finite-mono
+    where
+      number : (x : Float) → T (finite x) → Number (f x)
+      number nan X = absurd X
+      number (inf s) X = absurd X
+      number (fin s m e) X = rw (r .at-finite s m e) (sided-number s _ (round-sided binary64 s (at s m e) 1))
+
+      finite-mono : (x y : Float) → T (finite x) → T (finite y) → T (le x y) → T (le (f x) (f y))
+      finite-mono nan y X Y h = absurd X
+      finite-mono (inf s) y X Y h = absurd X
+      finite-mono (fin s m e) nan X Y h = absurd Y
+      finite-mono (fin s m e) (inf t) X Y h = absurd Y
+      finite-mono (fin s m e) (fin t n d) X Y h = rw (r .at-finite s m e, r .at-finite t n d) (round-ordered s t (at s m e) (at t n d) (ordered s m e t n d (le→below (fin s m e) (fin t n d) tt tt h)))
 
   pub keeps-whole : KeepsWhole f
   keeps-whole nan s n F v = absurd v

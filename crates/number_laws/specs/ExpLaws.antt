@@ -1,13 +1,14 @@
 -- Statements on E, the replacement of `exp`, and on 10^y. Definitions only.
 use mathlib.Core.Path.{_≡_}
 use Prim.Native.Nat.{ℕ, _≤_, _<_}
-use mathlib.Core.Bool.{Bool, true, false, not}
+use mathlib.Core.Bool.{Bool, true, false}
 use lib.Dec.{T}
 use lib.IntN.{ℤ, pos, negsuc}
-use lib.Ieee.{Float, fin, binary64, round, lt, le, ofInt, isNan}
+use lib.Ieee.{Float, fin, binary64, round, lt, le, ofInt}
 use lib.Ieee.Scale.{finite}
 use Rattle.numbers.specs.Arithmetic.{zero⁺, one, two}
 use Rattle.numbers.specs.Exponential.{limit, limit⁻, twoTo, expSeries, expWhole, expRest, expOf, tenTo}
+use Rattle.number_laws.specs.Values.{Number, NotNegative, Between}
 
 -- ---- 2^k
 -- the exponents of a normal f64: -1022 to 1023
@@ -33,33 +34,34 @@ pub record ExpReduced (x : Float) : Type 0 where
   pub whole : ℕ
   pub small : whole ≤ 995
   pub is : expWhole x ≡ round binary64 minus whole 1
-  pub low : T (le restMost⁻ (expRest x (expWhole x)))
-  pub high : T (le (expRest x (expWhole x)) restMost)
+  pub rest : Between restMost⁻ restMost (expRest x (expWhole x))
 
 -- for every x from -690 to 690
 abbrev pub ExpReduces : Type 0
-ExpReduces = (x : Float) → T (le limit⁻ x) → T (le x limit) → ExpReduced x
+ExpReduces = (x : Float) → Between limit⁻ limit x → ExpReduced x
 
 -- ---- the series
--- from 1/4 to 7/4
-pub record SeriesBounded (p : Float) : Type 0 where
-  pub low : T (le (fin false 1 (negsuc 1)) p)
-  pub high : T (le p (fin false 7 (negsuc 1)))
+-- 1/4 and 7/4
+abbrev pub sumLeast : Float
+sumLeast = fin false 1 (negsuc 1)
 
--- for every r from -3/8 to 3/8
+abbrev pub sumMost : Float
+sumMost = fin false 7 (negsuc 1)
+
+-- It stays from 1/4 to 7/4 for every r from -3/8 to 3/8.
 abbrev pub ExpSeriesBounded : Type 0
-ExpSeriesBounded = (r : Float) → T (le restMost⁻ r) → T (le r restMost) → SeriesBounded (expSeries 13 r one)
+ExpSeriesBounded = (r : Float) → Between restMost⁻ restMost r → Between sumLeast sumMost (expSeries 13 r one)
 
 -- ---- E at an x that is no NaN: no NaN, not negative, above zero from -690 on, finite up to 690, and at most 2 up to 0
 pub record ExpLaws (x : Float) : Type 0 where
-  pub number : T (not (isNan (expOf x)))
-  pub not-negative : T (le zero⁺ (expOf x))
+  pub number : Number (expOf x)
+  pub not-negative : NotNegative (expOf x)
   pub above-zero : T (le limit⁻ x) → T (lt zero⁺ (expOf x))
   pub is-finite : T (le x limit) → T (finite (expOf x))
   pub at-most-two : T (le x zero⁺) → T (le (expOf x) two)
 
 abbrev pub ExpHasLaws : Type 0
-ExpHasLaws = (x : Float) → T (not (isNan x)) → ExpLaws x
+ExpHasLaws = (x : Float) → Number x → ExpLaws x
 
 -- ---- 10^y at a y that is no NaN: the same, from -299 on and up to 299, since 299 × ln 10 is below 690
 abbrev pub tenMost : Float
@@ -69,11 +71,11 @@ abbrev pub tenMost⁻ : Float
 tenMost⁻ = fin true 299 (pos 0)
 
 pub record TenToLaws (y : Float) : Type 0 where
-  pub number : T (not (isNan (tenTo y)))
-  pub not-negative : T (le zero⁺ (tenTo y))
+  pub number : Number (tenTo y)
+  pub not-negative : NotNegative (tenTo y)
   pub above-zero : T (le tenMost⁻ y) → T (lt zero⁺ (tenTo y))
   pub is-finite : T (le y tenMost) → T (finite (tenTo y))
   pub at-most-two : T (le y zero⁺) → T (le (tenTo y) two)
 
 abbrev pub TenToHasLaws : Type 0
-TenToHasLaws = (y : Float) → T (not (isNan y)) → TenToLaws y
+TenToHasLaws = (y : Float) → Number y → TenToLaws y

@@ -54,10 +54,6 @@ KeepsWhole f = (x : Float) (s : Bool) (n : ℕ) → T (fits binary64 x) → HasV
 abbrev pub KeepsZero : (Float → Float) → Type 0
 KeepsZero f = (s : Bool) → f (fin s 0 (pos 0)) ≡ fin s 0 (pos 0)
 
--- on all values, infinities included; where a NaN stands the order is false
-abbrev pub Monotone : (Float → Float) → Type 0
-Monotone f = (x y : Float) → T (le x y) → T (le (f x) (f y))
-
 -- ---- floor and ceiling by the order alone
 -- r is not above x, and no whole f64 that is not above x is above r
 pub record LargestBelow (x r : Float) : Type 0 where

@@ -12,9 +12,10 @@ use lib.Ieee.Fits.{reach, down-pos}
 use lib.Ieee.Exact.{HasValue, round-exact}
 use lib.Ieee.Order.{round-mono, transfer}
 use lib.Ieee.Scale.{round-same}
-use Rattle.number_laws.proofs.Signed.{P, N, Is, sum-sums}
-use Rattle.number_laws.proofs.Apart.{magnitude-round}
-use Rattle.number_laws.proofs.Bounded.{AtMost, cross}
+use Rattle.number_laws.specs.Values.{AtMost}
+use Rattle.number_laws.proofs.Order.{P, N, cross}
+use Rattle.number_laws.proofs.Rounding.{Is, magnitude-round}
+use Rattle.number_laws.proofs.Sums.{sum-sums}
 
 -- ---- a fraction q / 2^t of a format
 pub dyadic-exact : (f : Format) (s : Bool) (q t : ℕ) → q < 2 ^ prec f → t ≤ low f → HasValue (round f s q (2 ^ t)) s q (2 ^ t)
