@@ -7,16 +7,18 @@ use mathlib.Core.Bool.{Bool, true, false, not, cond, _&&_, false≢true}
 use lib.IntN.{ℤ, pos, negsuc}
 use lib.Dec.{T, lit<, eqb·suc-zero, ltb, eqb, leb, ltb→lt}
 use lib.Pow.{pow-add, pow-pos}
-use lib.Ieee.{Float, nan, inf, fin, binary64, up, down, round, fits, le, ofBits}
-use lib.Ieee.Fits.{down-pos, round-fits, and-l, and-r}
+use lib.Ieee.{Float, nan, inf, fin, binary64, up, down, round, neg, fits, le, ofBits}
+use lib.Ieee.Fits.{down-pos, round-fits, neg-fits, and-l, and-r}
 use lib.Ieee.Exact.{HasValue, round-exact}
 use lib.Ieee.Back.{round-whole, whole-unique}
 use lib.Ieee.Scale.{finite}
 use lib.Ieee.Order.{transfer, le-of-values}
 use Rattle.numbers.specs.Whole.{halfUp, upward, wholeNearest, wholeBelow, wholeAbove}
+use Rattle.numbers.proofs.Sign.{neg-neg}
+use Rattle.numbers.proofs.whole.Fractions.{above-is}
 use Rattle.number_laws.specs.Values.{Number, Monotone}
-use Rattle.number_laws.specs.WholeLaws.{Nearest, Cut, Raised, RoundsTo, FloorsTo, CeilsTo, GivesWhole, KeepsWhole, KeepsZero, LargestBelow, SmallestAbove, MinusZero}
-use Rattle.number_laws.proofs.Order.{P, N, le→below, below→le, monotone-of-finite}
+use Rattle.number_laws.specs.WholeLaws.{Nearest, Cut, Raised, RoundsTo, FloorsTo, CeilsTo, WholeFrom, ToWhole, RoundLaws, FloorLaws, CeilLaws, FloorLargest, CeilSmallest, MinusZero}
+use Rattle.number_laws.proofs.Order.{P, N, le→below, below→le, monotone-of-finite, neg-le, neg-finite}
 use Rattle.number_laws.proofs.Rounding.{signed-mono, round-sided, sided-number, is-own}
 
 -- ---- n less than one from a / c
@@ -162,8 +164,8 @@ module _ (rule : Bool → ℕ → ℕ → ℕ → Type 0) (f : Float → Float) 
   close-at : (s : Bool) (m : ℕ) (e : ℤ) → Close (m * up e) (down e) (at s m e)
   close-at s m e = r .lawful .close s (m * up e) (down e) (at s m e) (down-pos e) (near-at s m e)
 
-  pub gives-whole : GivesWhole rule f
-  gives-whole s m e F = rw (r .at-finite s m e) (record { n = at s m e; value = exact s m e (at s m e) F (close-at s m e); held = round-fits binary64 s (at s m e) 1; near = near-at s m e })
+  gives : (s : Bool) (m : ℕ) (e : ℤ) → T (fits binary64 (fin s m e)) → WholeFrom rule s (m * up e) (down e) (f (fin s m e))
+  gives s m e F = rw (r .at-finite s m e) (record { n = at s m e; value = exact s m e (at s m e) F (close-at s m e); held = round-fits binary64 s (at s m e) 1; near = near-at s m e })
 
   ordered : (s : Bool) (m : ℕ) (e : ℤ) (t : Bool) (n : ℕ) (d : ℤ) → P s (m * up e) * down d + N t (n * up d) * down e ≤ P t (n * up d) * down e + N s (m * up e) * down d → P s (at s m e) + N t (at t n d) ≤ P t (at t n d) + N s (at s m e)
   ordered false m e false n d h = let l = r .lawful .grows false (m * up e) (down e) (at false m e) (n * up d) (down d) (at false n d) (down-pos e) (down-pos d) (near-at false m e) (near-at false n d) (omega arith) in omega arith
@@ -174,8 +176,8 @@ module _ (rule : Bool → ℕ → ℕ → ℕ → Type 0) (f : Float → Float) 
       let q = none (n * up d) (down d) (at true n d) (down e) (down-pos e) (omega arith) (close-at true n d) in
       omega arith
 
-  pub monotone : Monotone f
-  monotone = monotone-of-finite f (r .at-infinite) number finite-mono
+  mono : Monotone f
+  mono = monotone-of-finite f (r .at-infinite) number finite-mono
     where
       number : (x : Float) → T (finite x) → Number (f x)
       number nan X = absurd X
@@ -189,10 +191,10 @@ module _ (rule : Bool → ℕ → ℕ → ℕ → Type 0) (f : Float → Float) 
       finite-mono (fin s m e) (inf t) X Y h = absurd Y
       finite-mono (fin s m e) (fin t n d) X Y h = rw (r .at-finite s m e, r .at-finite t n d) (round-ordered s t (at s m e) (at t n d) (ordered s m e t n d (le→below (fin s m e) (fin t n d) tt tt h)))
 
-  pub keeps-whole : KeepsWhole f
-  keeps-whole nan s n F v = absurd v
-  keeps-whole (inf t) s n F v = absurd v
-  keeps-whole (fin t m e) s n F v =
+  keeps : (x : Float) (s : Bool) (n : ℕ) → T (fits binary64 x) → HasValue x s n 1 → f x ≡ x
+  keeps nan s n F v = absurd v
+  keeps (inf t) s n F v = absurd v
+  keeps (fin t m e) s n F v =
       let k = at t m e in
       let own : m * up e * 1 ≡ k * down e = v .1 ∙ ap (λ (z : ℕ). z * down e) (same n k (m * up e) (down e) (v .1) (close-at t m e)) in
       r .at-finite t m e ∙ whole-unique binary64 (round binary64 t k 1) (fin t m e) t k (round-fits binary64 t k 1) F (exact t m e k F (close-at t m e)) (refl, own)
@@ -203,8 +205,8 @@ module _ (rule : Bool → ℕ → ℕ → ℕ → Type 0) (f : Float → Float) 
           less : (x y c : ℕ) → x * c < y * c + c → x ≤ y
           less x y c l = not-more x y (λ g. let z : suc y * c ≤ x * c = mul-le-mul-right c g in lt-irrefl 0 (omega arith))
 
-  pub keeps-zero : KeepsZero f
-  keeps-zero s = keeps-whole (fin s 0 (pos 0)) s 0 (unfold fits in tt) (refl, refl)
+  pub to-whole : ToWhole rule f
+  to-whole = record { gives-whole = gives; keeps-whole = keeps; keeps-zero = λ s. keeps (fin s 0 (pos 0)) s 0 (unfold fits in tt) (refl, refl); monotone = mono }
 
 -- ---- values of one sign, in order
 in-order : (s : Bool) (x y : Float) (a c b d : ℕ) → 0 < c → 0 < d → HasValue x s a c → HasValue y s b d → P s a * d + N s b * c ≤ P s b * c + N s a * d → T (le x y)
@@ -218,9 +220,6 @@ in-order true (fin true m e) (fin false n g) a c b d C D h k l = absurd (false�
 in-order true (fin true m e) (fin true n g) a c b d C D h k l =
     let z = transfer (n * up g) (m * up e) (down g) (down e) b a d c D C (k .1) (h .1) (omega arith) in
     below→le (fin true m e) (fin true n g) tt tt (omega arith)
-
-own-value : (s : Bool) (m : ℕ) (e : ℤ) → HasValue (fin s m e) s (m * up e) (down e)
-own-value s m e = (refl, refl)
 
 -- ---- the three
 rounds : Rounder RoundsTo wholeNearest
@@ -243,71 +242,46 @@ ceils = record { lawful = ceils-rule; pick = λ s a c. cond s (a / c) (upward a 
     picks true = cut-is
     picks false = raised-is
 
--- rounding to whole, a half away from zero
-pub nearest-whole : GivesWhole RoundsTo wholeNearest
-nearest-whole = gives-whole RoundsTo wholeNearest rounds
+pub round-laws : RoundLaws
+round-laws = to-whole RoundsTo wholeNearest rounds
 
-pub nearest-keeps-whole : KeepsWhole wholeNearest
-nearest-keeps-whole = keeps-whole RoundsTo wholeNearest rounds
+pub floor-laws : FloorLaws
+floor-laws = to-whole FloorsTo wholeBelow floors
 
-pub nearest-keeps-zero : KeepsZero wholeNearest
-nearest-keeps-zero = keeps-zero RoundsTo wholeNearest rounds
+pub ceil-laws : CeilLaws
+ceil-laws = to-whole CeilsTo wholeAbove ceils
 
-pub nearest-mono : Monotone wholeNearest
-nearest-mono = monotone RoundsTo wholeNearest rounds
-
--- floor
-pub below-whole : GivesWhole FloorsTo wholeBelow
-below-whole = gives-whole FloorsTo wholeBelow floors
-
-pub below-keeps-whole : KeepsWhole wholeBelow
-below-keeps-whole = keeps-whole FloorsTo wholeBelow floors
-
-pub below-keeps-zero : KeepsZero wholeBelow
-below-keeps-zero = keeps-zero FloorsTo wholeBelow floors
-
-pub below-mono : Monotone wholeBelow
-below-mono = monotone FloorsTo wholeBelow floors
-
--- ceiling
-pub above-whole : GivesWhole CeilsTo wholeAbove
-above-whole = gives-whole CeilsTo wholeAbove ceils
-
-pub above-keeps-whole : KeepsWhole wholeAbove
-above-keeps-whole = keeps-whole CeilsTo wholeAbove ceils
-
-pub above-keeps-zero : KeepsZero wholeAbove
-above-keeps-zero = keeps-zero CeilsTo wholeAbove ceils
-
-pub above-mono : Monotone wholeAbove
-above-mono = monotone CeilsTo wholeAbove ceils
-
--- floor and ceiling by the order
-pub below-largest : (s : Bool) (m : ℕ) (e : ℤ) → T (fits binary64 (fin s m e)) → LargestBelow (fin s m e) (wholeBelow (fin s m e))
-below-largest s m e F =
-    let w = below-whole s m e F in
+-- ---- by the order
+pub floor-largest : FloorLargest
+floor-largest nan F X = absurd X
+floor-largest (inf s) F X = absurd X
+floor-largest (fin s m e) F X =
+    let w = floor-laws .gives-whole s m e F in
     record {
-      below = in-order s (wholeBelow (fin s m e)) (fin s m e) (w .n) 1 (m * up e) (down e) one-pos (down-pos e) (w .value) (own-value s m e) (side s (w .n) (m * up e) (down e) (w .near));
-      largest = λ y t k G v h. subst (λ (z : Float). T (le z (wholeBelow (fin s m e)))) (below-keeps-whole y t k G v) (below-mono y (fin s m e) h);
+      below = in-order s (wholeBelow (fin s m e)) (fin s m e) (w .n) 1 (m * up e) (down e) one-pos (down-pos e) (w .value) (refl, refl) (side s (w .n) (m * up e) (down e) (w .near));
+      largest = λ y t k G v h. subst (λ (z : Float). T (le z (wholeBelow (fin s m e)))) (floor-laws .keeps-whole y t k G v) (floor-laws .monotone y (fin s m e) h);
     }
   where
     side : (s : Bool) (n a c : ℕ) → FloorsTo s a c n → P s n * c + N s a * 1 ≤ P s a * 1 + N s n * c
     side true n a c h = omega arith
     side false n a c h = omega arith
 
-pub above-smallest : (s : Bool) (m : ℕ) (e : ℤ) → T (fits binary64 (fin s m e)) → SmallestAbove (fin s m e) (wholeAbove (fin s m e))
-above-smallest s m e F =
-    let w = above-whole s m e F in
-    record {
-      above = in-order s (fin s m e) (wholeAbove (fin s m e)) (m * up e) (down e) (w .n) 1 (down-pos e) one-pos (own-value s m e) (w .value) (side s (w .n) (m * up e) (down e) (w .near));
-      smallest = λ y t k G v h. subst (λ (z : Float). T (le (wholeAbove (fin s m e)) z)) (above-keeps-whole y t k G v) (above-mono (fin s m e) y h);
-    }
+-- the ceiling is the floor from the other side of zero
+pub ceil-smallest : CeilSmallest
+ceil-smallest x F X =
+    let l = floor-largest (neg x) (neg-fits binary64 x F) (neg-finite x X) in
+    rw (← above-is x)
+    (record {
+      above = rw neg-neg at (neg-le (wholeBelow (neg x)) (neg x) (l .below));
+      smallest = λ y t k G v h. rw neg-neg at (neg-le (neg y) (wholeBelow (neg x)) (l .largest (neg y) (not t) k (neg-fits binary64 y G) (neg-value y t k v) (neg-le x y h)));
+    })
   where
-    side : (s : Bool) (n a c : ℕ) → CeilsTo s a c n → P s a * 1 + N s n * c ≤ P s n * c + N s a * 1
-    side true n a c h = omega arith
-    side false n a c h = omega arith
+    neg-value : (y : Float) (t : Bool) (k : ℕ) → HasValue y t k 1 → HasValue (neg y) (not t) k 1
+    neg-value nan t k v = absurd v
+    neg-value (inf u) t k v = absurd v
+    neg-value (fin u n d) t k v = unfold neg in (ap not (v .0), v .1)
 
--- -0.4 rounds to -0.0, and so does its ceiling
+-- ---- -0.4
 pub minus-zero : MinusZero
 unfolding wholeNearest wholeAbove round ofBits
-minus-zero = (refl, refl)
+minus-zero = record { rounded = refl; ceiling = refl }

@@ -7,7 +7,9 @@ use lib.IntN.{ℤ, pos}
 use lib.Dec.{T}
 use lib.Ieee.{Float, fin, binary64, up, down, le, fits, ofBits}
 use lib.Ieee.Exact.{HasValue}
-use Rattle.numbers.specs.Whole.{wholeNearest, wholeAbove}
+use lib.Ieee.Scale.{finite}
+use Rattle.numbers.specs.Whole.{wholeNearest, wholeBelow, wholeAbove}
+use Rattle.number_laws.specs.Values.{Monotone}
 
 -- ---- the whole number n beside the fraction a / c
 -- at most a half above it, and less than a half below it: of two that are equally near, the larger
@@ -41,18 +43,25 @@ pub record WholeFrom (rule : Bool → ℕ → ℕ → ℕ → Type 0) (s : Bool)
   pub held : T (fits binary64 r)
   pub near : rule s a c n
 
--- ---- what is said of each of the three functions
--- every finite f64 goes to a whole number by the rule
-abbrev pub GivesWhole : (Bool → ℕ → ℕ → ℕ → Type 0) → (Float → Float) → Type 0
-GivesWhole rule f = (s : Bool) (m : ℕ) (e : ℤ) → T (fits binary64 (fin s m e)) → WholeFrom rule s (m * up e) (down e) (f (fin s m e))
+-- ---- what holds of each of the three functions
+pub record ToWhole (rule : Bool → ℕ → ℕ → ℕ → Type 0) (g : Float → Float) : Type 0 where
+  -- every finite f64 goes to a whole number by the rule
+  pub gives-whole : (s : Bool) (m : ℕ) (e : ℤ) → T (fits binary64 (fin s m e)) → WholeFrom rule s (m * up e) (down e) (g (fin s m e))
+  -- a whole number stays
+  pub keeps-whole : (x : Float) (s : Bool) (n : ℕ) → T (fits binary64 x) → HasValue x s n 1 → g x ≡ x
+  -- a zero keeps its sign
+  pub keeps-zero : (s : Bool) → g (fin s 0 (pos 0)) ≡ fin s 0 (pos 0)
+  -- the order stays, on all values, infinities included
+  pub monotone : Monotone g
 
--- a whole number stays
-abbrev pub KeepsWhole : (Float → Float) → Type 0
-KeepsWhole f = (x : Float) (s : Bool) (n : ℕ) → T (fits binary64 x) → HasValue x s n 1 → f x ≡ x
+abbrev pub RoundLaws : Type 0
+RoundLaws = ToWhole RoundsTo wholeNearest
 
--- a zero keeps its sign
-abbrev pub KeepsZero : (Float → Float) → Type 0
-KeepsZero f = (s : Bool) → f (fin s 0 (pos 0)) ≡ fin s 0 (pos 0)
+abbrev pub FloorLaws : Type 0
+FloorLaws = ToWhole FloorsTo wholeBelow
+
+abbrev pub CeilLaws : Type 0
+CeilLaws = ToWhole CeilsTo wholeAbove
 
 -- ---- floor and ceiling by the order alone
 -- r is not above x, and no whole f64 that is not above x is above r
@@ -60,10 +69,22 @@ pub record LargestBelow (x r : Float) : Type 0 where
   pub below : T (le r x)
   pub largest : (y : Float) (t : Bool) (k : ℕ) → T (fits binary64 y) → HasValue y t k 1 → T (le y x) → T (le y r)
 
+-- r is not below x, and no whole f64 that is not below x is below r
 pub record SmallestAbove (x r : Float) : Type 0 where
   pub above : T (le x r)
   pub smallest : (y : Float) (t : Bool) (k : ℕ) → T (fits binary64 y) → HasValue y t k 1 → T (le x y) → T (le r y)
 
--- an example: -0.4 rounds to -0.0, and so does its ceiling
-abbrev pub MinusZero : Type 0
-MinusZero = let x = ofBits binary64 0xbfd999999999999a in (wholeNearest x ≡ fin true 0 (pos 0)) × (wholeAbove x ≡ fin true 0 (pos 0))
+abbrev pub FloorLargest : Type 0
+FloorLargest = (x : Float) → T (fits binary64 x) → T (finite x) → LargestBelow x (wholeBelow x)
+
+abbrev pub CeilSmallest : Type 0
+CeilSmallest = (x : Float) → T (fits binary64 x) → T (finite x) → SmallestAbove x (wholeAbove x)
+
+-- ---- an example: -0.4 rounds to -0.0, and so does its ceiling
+-- -0.4
+abbrev pub minusTwoFifths : Float
+minusTwoFifths = ofBits binary64 0xbfd999999999999a
+
+pub record MinusZero : Type 0 where
+  pub rounded : wholeNearest minusTwoFifths ≡ fin true 0 (pos 0)
+  pub ceiling : wholeAbove minusTwoFifths ≡ fin true 0 (pos 0)
