@@ -10,16 +10,13 @@ use lib.Count.{trailingZeros}
 use lib.Ieee.{Float, nan, inf, fin, binary64, up, down, odd, round, size, units, span, climb, neg, sum, add, mul, div, lt, eq, le, ofInt, ofFields, ofBits, isNan}
 use lib.Ieee.Fits.{up-pos}
 use lib.Ieee.Bits.{is-true, is-false}
-use lib.Ieee.Exact.{HasValue}
-use lib.Ieee.Back.{round-whole}
 use lib.Ieee.Order.{round-mono}
-use lib.Ieee.Scale.{finite}
 use lib.Ieee.Positive.{positive, positive-finite, cross→le, between, mul-mono}
 use lib.Pow.{pow-pos, pow-mono}
 use Rattle.numbers.specs.Arithmetic.{_⊕_, _⊗_, _⊘_, zero⁺, one, two}
 use Rattle.numbers.specs.Exponential.{limit, limit⁻, ln10, twoTo, expSeries, expWhole, expRest, expAt, expOf, tenTo}
 use Rattle.numbers.proofs.Value.{finite-no-nan}
-use Rattle.number_laws.specs.ExpLaws.{restMost, restMost⁻, sumLeast, sumMost, ExpSeriesBounded, ExpLaws, ExpHasLaws, tenMost, tenMost⁻, TenToHasLaws}
+use Rattle.number_laws.specs.ExpLaws.{restMost, sumLeast, sumMost, ExpSeriesBounded, ExpLaws, ExpHasLaws, tenMost, tenMost⁻, TenToHasLaws}
 use Rattle.number_laws.proofs.TwoTo.{signed, two-to-whole}
 use Rattle.number_laws.proofs.ExpReduced.{Reduced, limited, reduced}
 use Rattle.number_laws.specs.Values.{Number, magnitude, AtMost, Between, Monotone}

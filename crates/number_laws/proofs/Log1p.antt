@@ -14,10 +14,10 @@ use Rattle.numbers.specs.Narrow.{nearestF32}
 use Rattle.numbers.specs.Logarithm.{smallestNormal, seriesMost, logSeries, logTwice, logOf, log1pWide, log1pOf}
 use Rattle.numbers.proofs.Value.{finite-no-nan}
 use Rattle.number_laws.specs.LogLaws.{Normal, Log1pFinite, Log1pZeros}
-use Rattle.number_laws.proofs.LogSeries.{quarter, fiveEighths, twice-at-most, twice-finite, twice-not-negative}
+use Rattle.number_laws.proofs.LogSeries.{quarter, fiveEighths, twice-at-most, twice-not-negative}
 use Rattle.number_laws.proofs.LogLaws.{log-not-negative, log-most}
 use Rattle.number_laws.specs.Values.{magnitude, AtMost, NotNegative, Between}
-use Rattle.number_laws.proofs.Order.{P, N, below→le, le-transitive, not-le→lt, wider, between-finite, between-at-most, at-most-high, at-most-finite, magnitude-above, positive-above}
+use Rattle.number_laws.proofs.Order.{P, N, below→le, le-transitive, not-le→lt, between-finite, between-at-most, at-most-high, at-most-finite, magnitude-above, positive-above}
 use Rattle.number_laws.proofs.Sums.{add-between}
 use Rattle.number_laws.proofs.Products.{div-at-most, div-not-negative}
 use Rattle.number_laws.proofs.Narrowing.{narrow-mono, narrow-fits}

@@ -1,9 +1,7 @@
 -- L and `log10` of a positive normal v are finite and bounded; L is not negative from v = 1 on, and at most 91 up to v = 2^128. Assumes nothing.
 use mathlib.Core.Path.{_≡_, refl}
-use Prim.Native.Nat.{ℕ, _<_}
-use native.Mathlib.Omega.{arith}
 use mathlib.Core.Bool.{Bool, true, false, not, cond}
-use lib.IntN.{ℤ, pos, negsuc}
+use lib.IntN.{pos, negsuc}
 use lib.Dec.{T}
 use lib.Ieee.{Float, nan, inf, fin, binary64, add, sub, mul, div, neg, lt, le, ofBits, isNan}
 use lib.Ieee.Bits.{is-true}
@@ -15,7 +13,7 @@ use Rattle.numbers.specs.Logarithm.{smallestNormal, sqrt2, half, mantissa, expo
 use Rattle.numbers.proofs.Value.{finite-no-nan}
 use Rattle.number_laws.specs.LogLaws.{Normal, LogFinite, LogNotNegative, LogMost, Log10Finite, Log10Infinite}
 use Rattle.number_laws.proofs.Mantissa.{mantissa-range, exponent-range, exponent-from-one, exponent-to-128}
-use Rattle.number_laws.proofs.LogSeries.{quarter, fiveEighths, twice-at-most, twice-finite, twice-not-negative}
+use Rattle.number_laws.proofs.LogSeries.{quarter, fiveEighths, twice-at-most, twice-not-negative}
 use Rattle.number_laws.specs.Values.{magnitude, AtMost, NotNegative, Between}
 use Rattle.number_laws.proofs.Order.{le-transitive, lt→le, not-lt→le, wider, between-finite, at-most-between, between-at-most, at-most-finite, magnitude-above, positive-above}
 use Rattle.number_laws.proofs.Sums.{sub-mono, sub-not-negative, add-mono, add-between}

@@ -2,7 +2,7 @@
 use mathlib.Core.Path.{refl}
 use Prim.Native.Nat.{_*_}
 use lib.Dec.{T}
-use lib.Ieee.{Float, nan, inf, fin, binary32, up, down, round, le, fits}
+use lib.Ieee.{Float, nan, inf, fin, binary32, up, down, le}
 use lib.Ieee.Fits.{down-pos, round-fits, nan-fits, inf-fits}
 use lib.Ieee.Scale.{finite}
 use Rattle.numbers.specs.Narrow.{nearestF32}

@@ -1,5 +1,5 @@
 -- The order of floats: over whole numbers, it is that of (Pos - Neg) / Den; it is transitive, total but for NaN, and turned by negation. Assumes nothing.
-use mathlib.Core.Path.{_≡_, refl, sym, ap, _∙_, subst}
+use mathlib.Core.Path.{_≡_, refl, sym}
 use mathlib.Core.Logic.{_⊎_, inl, inr}
 use Prim.Native.Nat.{ℕ, _+_, _*_, _≤_, _<_}
 use native.Mathlib.Nat.{le-refl, eq-or-lt-of-le, eq-zero-or-pos, mul-right-comm, mul-le-mul-right, le-of-mul-le-mul-right, zero-mul, add-mul}

@@ -3,18 +3,18 @@ use mathlib.Core.Path.{_≡_, refl, ap, _∙_, subst}
 use Prim.Native.Nat.{ℕ, zero, suc, _+_, _*_, _≤_, _<_}
 use native.Mathlib.Nat.{le-trans, le-of-eq, lt-irrefl, mul-assoc, mul-comm, mul-left-comm, mul-le-mul, mul-pos, zero-mul, mul-zero, zero-add, add-zero}
 use native.Mathlib.Omega.{arith}
-use mathlib.Core.Bool.{Bool, true, false, not, cond}
+use mathlib.Core.Bool.{Bool, true, false, cond}
 use lib.IntN.{ℤ, pos}
 use lib.Dec.{T, eqb, eqb·suc-zero, eqb→eq, ltb→lt}
 use lib.Ieee.{Float, nan, inf, fin, Format, up, down, unlike, round, mul, div, le, isNan}
-use lib.Ieee.Fits.{down-pos, up-pos}
+use lib.Ieee.Fits.{up-pos}
 use lib.Ieee.Positive.{positive, positive-finite}
 use lib.Ieee.Scale.{finite}
 use Rattle.numbers.specs.Arithmetic.{zero⁺}
 use Rattle.numbers.proofs.Value.{finite-no-nan}
-use Rattle.number_laws.specs.Values.{Number, Den, magnitude, AtMost, NotNegative, Between, Monotone}
+use Rattle.number_laws.specs.Values.{Number, Den, magnitude, AtMost, NotNegative, Monotone}
 use Rattle.number_laws.specs.FloatLaws.{MulMonotone, MulMonotoneBy, MulMonotoneByPositive, MulNumber, DivMonotone, MulNotNegative, DivNotNegative, SquareNotNegative, MulAtMost, DivAtMost, MulBetween, MulBetweenBy}
-use Rattle.number_laws.proofs.Order.{P, N, P-mul, N-mul, Pos, Neg, den-pos, times, le→below, le-self, le-transitive, monotone-of-finite, between-finite, magnitude-finite, magnitude-not-negative, at-most-finite, no-negative-part, positive-above, positive-not-negative}
+use Rattle.number_laws.proofs.Order.{P, N, Pos, Neg, den-pos, times, le→below, le-self, le-transitive, monotone-of-finite, between-finite, magnitude-finite, magnitude-not-negative, at-most-finite, no-negative-part, positive-above, positive-not-negative}
 use Rattle.number_laws.proofs.Rounding.{Is, Sums, sums-mono, zeros, round-sided, sided-number, sided-not-negative, magnitude-round}
 
 -- ---- a product is a signed fraction, rounded

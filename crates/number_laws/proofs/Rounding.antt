@@ -1,15 +1,15 @@
 -- Signed fractions rounded: `round` keeps the order of (p - q) / c for all signs, and gives its own side of zero. Assumes nothing.
-use mathlib.Core.Path.{_≡_, refl, sym, ap, _∙_, subst}
+use mathlib.Core.Path.{_≡_, refl, ap, _∙_}
 use Prim.Native.Nat.{ℕ, zero, suc, _+_, _*_, _^_, _≤_, _<_}
 use native.Mathlib.Nat.{lt-irrefl, zero-mul}
 use native.Mathlib.Omega.{arith}
-use mathlib.Core.Bool.{Bool, true, false, not, Bool·beq, cond}
+use mathlib.Core.Bool.{Bool, true, false, Bool·beq, cond}
 use lib.IntN.{pos}
 use lib.Dec.{T, lit<, ltb}
-use lib.Ieee.{Float, nan, inf, fin, Format, binary32, binary64, prec, emax, low, up, down, odd, units, round, neg, le, isNan}
+use lib.Ieee.{Float, nan, inf, fin, Format, binary32, binary64, prec, emax, low, odd, units, round, le, isNan}
 use lib.Ieee.Fits.{round-is}
 use lib.Ieee.Order.{round-mono}
-use lib.Ieee.Scale.{finite, round-same}
+use lib.Ieee.Scale.{round-same}
 use Rattle.numbers.specs.Arithmetic.{zero⁺}
 use Rattle.numbers.proofs.Sign.{neg-round}
 use Rattle.number_laws.specs.Values.{Number, magnitude, NotNegative}

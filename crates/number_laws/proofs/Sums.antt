@@ -5,12 +5,12 @@ use native.Mathlib.Nat.{lt-irrefl, le-trans, le-of-eq, mul-comm, mul-assoc, mul-
 use native.Mathlib.Omega.{arith}
 use mathlib.Core.Bool.{Bool, true, false, not, cond}
 use lib.Dec.{T, ltb, ltb→lt, nltb→le}
-use lib.Ieee.{Float, nan, inf, fin, Format, up, down, round, sum, add, sub, neg, le}
+use lib.Ieee.{Float, nan, inf, fin, Format, up, down, round, sum, add, sub, neg}
 use lib.Ieee.Fits.{down-pos}
 use lib.Ieee.Order.{round-mono}
 use lib.Ieee.Scale.{finite}
 use Rattle.numbers.specs.Arithmetic.{zero⁺}
-use Rattle.number_laws.specs.Values.{Den, magnitude, AtMost, NotNegative, Between}
+use Rattle.number_laws.specs.Values.{Den, magnitude, AtMost}
 use Rattle.number_laws.specs.FloatLaws.{AddMonotone, SubMonotone, SubAntitone, SubSelf, SubNotNegative, DistanceSymmetric, AddNotNegative, AddAtMost, SubAtMost, AddBetween}
 use Rattle.number_laws.proofs.Order.{P, N, P-mul, N-mul, Pos, Neg, den-pos, times, le→below, le-self, le-transitive, neg-le, neg-finite, between-finite, magnitude-finite, magnitude-neg, at-most-finite}
 use Rattle.number_laws.proofs.Rounding.{Is, Sums, sums-mono, zeros, magnitude-round, is-le}

@@ -1,15 +1,13 @@
 -- Bounds n * 2 ^ p: sums, differences, products, quotients and running sums of values within them are finite and bounded again, since rounding keeps the order. Assumes nothing.
 use mathlib.Core.Path.{_≡_, refl, sym, ap, _∙_, subst}
-use Prim.Native.Nat.{ℕ, zero, suc, _+_, _*_, _^_, _≤_, _<_}
+use Prim.Native.Nat.{ℕ, suc, _+_, _*_, _^_, _≤_, _<_}
 use native.Mathlib.Nat.{le-trans, le-of-eq, lt-irrefl, mul-one, mul-comm, mul-assoc, mul-left-comm, mul-right-comm, mul-le-mul-right, mul-le-mul, mul-pos, le-of-mul-le-mul-right, add-mul, zero-mul, zero-add, mul-lt-mul-of-pos-right, lt-of-le-of-lt, lt-of-lt-of-le}
 use native.Mathlib.Omega.{arith}
 use mathlib.Core.Bool.{Bool, true, false, cond, true≢false}
-use mathlib.Core.List.{List, [], _∷_}
-use lib.IntN.{negsuc}
 use lib.ListN.{length}
 use lib.Dec.{T, lit<, eqb, eqb→eq}
 use lib.Pow.{pow-add, pow-pos}
-use lib.Ieee.{Float, nan, inf, fin, Format, prec, emax, low, up, down, unlike, round, add, sub, mul, div, neg, le}
+use lib.Ieee.{Float, nan, inf, fin, Format, emax, low, up, down, unlike, round, add, sub, mul, div, neg, le}
 use lib.Ieee.Fits.{down-pos}
 use lib.Ieee.Exact.{HasValue, round-exact}
 use lib.Ieee.Order.{round-mono}
@@ -17,7 +15,7 @@ use lib.Ieee.Positive.{first-pos}
 use lib.Ieee.Scale.{finite}
 use Rattle.numbers.specs.Arithmetic.{zero⁺}
 use Rattle.numbers.proofs.Sign.{neg-round}
-use Rattle.number_laws.specs.Values.{size, Den, Within, Holds, Each, nothing, each, running}
+use Rattle.number_laws.specs.Values.{size, Den, Within, Holds, nothing, each, running}
 use Rattle.number_laws.specs.FloatLaws.{AddWithin, SubWithin, MulWithin, DivWithin, LeGivesSize, RunningWithin, SumWithin}
 use Rattle.number_laws.proofs.Order.{Pos, Neg, den-pos, fromS}
 use Rattle.number_laws.proofs.Rounding.{sided, round-sided, is-le}

@@ -1,11 +1,9 @@
 -- Negation: twice gives the value back, and the sign goes through a rounding. Assumes nothing.
-use mathlib.Core.Path.{_≡_, refl, sym, ap, _∙_}
-use Prim.Native.Nat.{ℕ, zero, suc, _+_, _-_, _*_, _/_, _^_}
+use mathlib.Core.Path.{_≡_, refl}
+use Prim.Native.Nat.{ℕ, zero, suc, _+_, _-_, _*_, _^_}
 use mathlib.Core.Bool.{Bool, true, false, cond}
 use lib.Dec.{ltb}
-use lib.Ieee.{Float, nan, inf, fin, Format, prec, emax, low, size, odd, units, round, neg}
-use lib.Ieee.Fits.{round-is}
-use lib.Ieee.Nearest.{closest}
+use lib.Ieee.{Float, nan, inf, fin, Format, prec, emax, low, odd, units, round, neg}
 
 pub neg-neg : (x : Float) → neg (neg x) ≡ x
 unfolding neg

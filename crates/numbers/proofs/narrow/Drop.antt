@@ -1,12 +1,12 @@
 -- How many digits the nearest f32 drops, and what it keeps. Assumes nothing.
 use mathlib.Core.Path.{_≡_, refl, sym, ap, _∙_, subst}
-use mathlib.Core.Logic.{_⊎_, inl, inr}
-use Prim.Native.Nat.{ℕ, zero, suc, _+_, _-_, _*_, _/_, _%_, _^_, _≤_, _<_, zero-le}
-use native.Mathlib.Nat.{le-trans, le-of-eq, le-of-lt, lt-of-lt-of-le, lt-of-le-of-lt, lt-of-not-le, not-le-of-lt, le-refl, mul-assoc, mul-le-mul-right, pow-succ', mul-one}
+use mathlib.Core.Logic.{inl, inr}
+use Prim.Native.Nat.{ℕ, zero, suc, _+_, _-_, _*_, _^_, _≤_, _<_, zero-le}
+use native.Mathlib.Nat.{le-trans, le-of-eq, le-of-lt, lt-of-lt-of-le, lt-of-le-of-lt, lt-of-not-le, not-le-of-lt, mul-assoc, mul-le-mul-right, pow-succ'}
 use native.Mathlib.Omega.{arith}
-use lib.Dec.{lit<, lit≤}
-use lib.Pow.{pow-pos, pow-mono, pow-lt, pow-add, shl-lt}
-use lib.Count.{leadingZeros, leading-length, leading-le}
+use lib.Dec.{lit≤}
+use lib.Pow.{pow-pos, pow-mono, pow-add, shl-lt}
+use lib.Count.{leadingZeros, leading-length}
 use lib.Ieee.Nearest.{closest, closest-same}
 use Rattle.numbers.specs.Narrow.{Dropped}
 use Rattle.numbers.proofs.Encode.{closest-small}

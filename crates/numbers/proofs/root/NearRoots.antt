@@ -1,12 +1,10 @@
 -- The whole number nearest to a root. Assumes nothing.
 use mathlib.Core.Path.{_≡_, refl, sym, ap, _∙_, subst}
-use mathlib.Core.Logic.{_⊎_, inl, inr}
 use Prim.Native.Nat.{ℕ, zero, suc, _+_, _-_, _*_, _/_, _%_, _^_, _≤_, _<_}
-use native.Mathlib.Nat.{le-trans, le-of-eq, le-refl, le-antisymm, lt-of-lt-of-le, lt-of-le-of-lt, lt-of-not-le, not-le-of-lt, mul-le-mul, add-le-add, div-add-mod', pow-succ', pow-suc, le-of-suc-le-suc, zero-add, mul-one, lt-irrefl}
+use native.Mathlib.Nat.{le-trans, le-antisymm, lt-of-not-le, not-le-of-lt, mul-le-mul, add-le-add, div-add-mod', pow-succ', le-of-suc-le-suc, lt-irrefl}
 use native.Mathlib.Omega.{arith}
 use mathlib.Core.Bool.{Bool, true, false, not, cond}
-use lib.Dec.{T, leb, ltb, leb→le, nleb→lt, ltb→lt, nltb→le, lit<, lit≤}
-use lib.Pow.{pow-pos}
+use lib.Dec.{T, leb, ltb, leb→le, nleb→lt, ltb→lt, nltb→le}
 use Rattle.numbers.specs.Root.{NearRoot, Squared, rootFrom, nearRoot}
 
 -- ---- a square by halves

@@ -1,8 +1,8 @@
 -- The root of a value, by its bits. Assumes nothing.
 use mathlib.Core.Path.{_≡_, refl, sym, ap, _∙_, subst}
-use mathlib.Core.Logic.{_⊎_, inl, inr}
+use mathlib.Core.Logic.{inr}
 use Prim.Native.Nat.{ℕ, zero, suc, _+_, _-_, _*_, _/_, _%_, _^_, _≤_, _<_}
-use native.Mathlib.Nat.{le-trans, le-of-eq, le-refl, le-of-suc-le-suc, lt-irrefl, lt-of-lt-of-le, lt-of-le-of-lt, lt-of-not-le, not-le-of-lt, mul-one, mul-assoc, mul-comm, mul-pos, zero-mul, zero-add, zero-lt-suc, mul-le-mul-right, mul-div-cancel, mod-eq-of-lt, pow-succ'}
+use native.Mathlib.Nat.{le-trans, le-of-eq, le-of-suc-le-suc, lt-irrefl, lt-of-lt-of-le, lt-of-le-of-lt, lt-of-not-le, not-le-of-lt, mul-assoc, mul-comm, mul-pos, zero-mul, zero-add, zero-lt-suc, mul-le-mul-right, mul-div-cancel, mod-eq-of-lt, pow-succ'}
 use native.Mathlib.Omega.{arith}
 use mathlib.Core.Bool.{Bool, true, false, not, cond, true≢false, false≢true}
 use lib.Dec.{T, ltb, ltb→lt, nltb→le, not-T, lit<, lit≤}

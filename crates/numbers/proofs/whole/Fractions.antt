@@ -1,17 +1,15 @@
 -- Whole numbers near a value. Assumes nothing.
 use mathlib.Core.Path.{_≡_, refl, sym, ap, _∙_, subst}
-use mathlib.Core.Logic.{_⊎_, inl, inr}
-use Prim.Native.Nat.{ℕ, zero, suc, _+_, _-_, _*_, _/_, _%_, _^_, _≤_, _<_, compare}
-use native.Mathlib.Nat.{le-trans, le-of-eq, lt-of-lt-of-le, lt-of-le-of-lt, mul-one, mul-comm, mul-assoc, mul-right-comm, mul-le-mul, mul-le-mul-right, mul-pos, zero-lt-suc, eq-of-mul-eq-mul-right, div-lt-iff-lt-mul, mul-div-cancel, div-add-mod', div-le-self, div-eq-of-lt, zero-mul, zero-mod, zero-div, mod-lt, mul-mod-left}
+use Prim.Native.Nat.{ℕ, zero, suc, _+_, _-_, _*_, _/_, _%_, _^_, _≤_, _<_}
+use native.Mathlib.Nat.{le-trans, le-of-eq, lt-of-lt-of-le, lt-of-le-of-lt, mul-one, mul-assoc, mul-right-comm, mul-pos, zero-lt-suc, eq-of-mul-eq-mul-right, div-lt-iff-lt-mul, mul-div-cancel, div-add-mod', div-le-self, div-eq-of-lt, zero-mul, zero-mod, zero-div, mod-lt}
 use native.Mathlib.Omega.{arith}
-use mathlib.Core.Bool.{Bool, true, false, not, cond}
-use lib.Dec.{T, ltb, eqb, eqb→eq, eqb-refl, not-T, lit<, lit≤, eqb·suc-zero}
+use mathlib.Core.Bool.{Bool, true, false, cond}
+use lib.Dec.{T, eqb, lit≤, eqb·suc-zero}
 use lib.Pow.{pow-pos, pow-mono, pow-add, shl-lt}
-use lib.Ieee.{Float, nan, inf, fin, Format, binary32, binary64, prec, emax, low, up, down, size, nearest, odd, units, round, fits, neg}
-use lib.Ieee.Fits.{round-is, round-fits, down-pos}
-use lib.Ieee.Bits.{is-true, is-false}
+use lib.Ieee.{Float, nan, inf, fin, binary64, up, down, round, fits, neg}
+use lib.Ieee.Fits.{round-fits, down-pos}
 use lib.Ieee.Exact.{HasValue, round-exact}
-use lib.Ieee.Nearest.{closest, div-same}
+use lib.Ieee.Nearest.{div-same}
 use Rattle.numbers.specs.Parts.{Parted}
 use Rattle.numbers.specs.Whole.{halfUp, upward, wholeNearest, wholeBelow, wholeAbove}
 use Rattle.numbers.proofs.Encode.{same-value}

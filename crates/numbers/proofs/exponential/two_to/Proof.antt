@@ -1,14 +1,13 @@
 -- `numbers::exponential::two_to` meets its contract. Assumes nothing.
 use mathlib.Core.Path.{_≡_, refl, sym, ap, _∙_, subst}
-use mathlib.Core.Bool.{Bool, true, false, not, cond, _&&_, _||_, true≢false, false≢true}
-use mathlib.Core.Logic.{inl, inr}
-use Prim.Native.Nat.{ℕ, zero, suc, _+_, _-_, _*_, _/_, _%_, _^_, _≤_, _<_, min}
-use native.Mathlib.Nat.{le-trans, le-of-eq, le-of-lt, lt-of-lt-of-le, lt-of-le-of-lt, mul-one, one-mul, mul-pos, mul-le-mul-right, mul-lt-mul-of-pos-right, zero-lt-suc, min-le-left, lt-suc-self, div-lt-iff-lt-mul, le-add-left, le-add-right}
+use mathlib.Core.Bool.{Bool, true, false, cond, _&&_, _||_, true≢false, false≢true}
+use Prim.Native.Nat.{ℕ, _+_, _-_, _*_, _/_, _^_, _≤_, _<_}
+use native.Mathlib.Nat.{le-trans, le-of-eq, le-of-lt, lt-of-lt-of-le, lt-of-le-of-lt, one-mul, mul-pos, mul-lt-mul-of-pos-right, min-le-left, div-lt-iff-lt-mul, le-add-left, le-add-right}
 use native.Mathlib.Omega.{arith}
-use lib.IntN.{ℤ, pos}
-use lib.Dec.{T, ltb, leb, eqb, eqb→eq, lt→ltb, ltb→lt, lit<, lit≤}
+use lib.IntN.{pos}
+use lib.Dec.{T, ltb, eqb, eqb→eq, lt→ltb, ltb→lt, lit<, lit≤}
 use lib.Ieee.{Float, nan, inf, fin, binary64, up, down, add, lt, le, ofBits, div, toUnsigned}
-use lib.Ieee.Fits.{down-pos, and-l, and-r}
+use lib.Ieee.Fits.{down-pos, and-r}
 use Rattle.numbers.specs.Arithmetic.{one}
 use Rattle.numbers.specs.Exponential.{twoTo}
 use Rattle.numbers.proofs.root.Rooted.{no-nan-bits}

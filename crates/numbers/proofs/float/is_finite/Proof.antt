@@ -1,5 +1,5 @@
 -- `numbers::float::is_finite` meets its contract. Assumes nothing.
-use mathlib.Core.Path.{_≡_, refl, sym, ap, _∙_}
+use mathlib.Core.Path.{_≡_, refl}
 use mathlib.Core.Bool.{true, false, true≢false, false≢true}
 use lib.Ieee.{Float, nan, inf, fin, lt, div, ofBits, neg}
 use lib.Ieee.Scale.{finite}

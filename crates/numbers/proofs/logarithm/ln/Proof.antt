@@ -1,10 +1,9 @@
 -- `numbers::logarithm::ln` meets its contract. Assumes nothing.
-use mathlib.Core.Path.{_≡_, refl, sym, ap, _∙_, subst}
-use mathlib.Core.Bool.{Bool, true, false}
+use mathlib.Core.Path.{sym, subst}
 use Prim.Native.Nat.{ℕ, _+_, _/_, _%_, _≤_, _<_}
 use native.Mathlib.Omega.{arith}
 use lib.Dec.{T, le→leb}
-use lib.Ieee.{Float, nan, inf, binary64, fits, inFloat, toBits, ofBits, mul, add, div, lt, le}
+use lib.Ieee.{Float, binary64, fits, inFloat, toBits, ofBits, div}
 use lib.Ieee.Bits.{toBits-lt}
 use borrow.Author.Needs.{needs}
 use Rattle.numbers.specs.Logarithm.{logOf}

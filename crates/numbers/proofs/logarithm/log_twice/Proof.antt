@@ -1,5 +1,5 @@
 -- `numbers::logarithm::log_twice` meets its contract. Assumes nothing.
-use mathlib.Core.Path.{_≡_, ap}
+use mathlib.Core.Path.{ap}
 use lib.Ieee.{Float, binary64, mul, ofBits}
 use borrow.Author.Needs.{needs}
 use Rattle.numbers.specs.Arithmetic.{two}

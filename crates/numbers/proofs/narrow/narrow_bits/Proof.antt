@@ -1,10 +1,9 @@
 -- `numbers::narrow::narrow_bits` meets its contract. Assumes nothing.
-use mathlib.Core.Path.{_≡_, sym, ap, _∙_}
-use Prim.Native.Nat.{ℕ, _+_, _-_, _*_, _^_, _≤_, _<_}
+use mathlib.Core.Path.{_≡_, ap, _∙_}
+use Prim.Native.Nat.{ℕ, _+_, _-_, _^_, _≤_, _<_}
 use native.Mathlib.Omega.{arith}
 use lib.Ieee.Nearest.{closest}
 use borrow.Author.Needs.{needs}
-use Rattle.numbers.specs.Narrow.{Dropped}
 use Rattle.numbers.proofs.narrow.Drop.{normal}
 use Rattle.numbers.proofs.narrow.Patterns.{sign-le, under, few}
 use Rattle.numbers.proofs.narrow.narrow_bits.Statement.{statement}

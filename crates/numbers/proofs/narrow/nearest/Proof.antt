@@ -1,11 +1,11 @@
 -- `numbers::narrow::nearest` meets its contract. Assumes nothing.
-use mathlib.Core.Path.{_≡_, refl, sym, ap, _∙_, subst}
+use mathlib.Core.Path.{_≡_, sym, ap, _∙_, subst}
 use mathlib.Core.Bool.{Bool, true, false, not}
 use Prim.Native.Nat.{ℕ, suc, _+_, _-_, _*_, _/_, _%_, _^_, _≤_, _<_}
-use native.Mathlib.Nat.{mod-eq-of-lt, one-mul, pow-succ', div-add-mod', mod-lt, mul-pos, div-eq-of-lt-le}
+use native.Mathlib.Nat.{mod-eq-of-lt, one-mul, pow-succ', div-add-mod', mod-lt, div-eq-of-lt-le}
 use native.Mathlib.Numerals.{add-one}
 use native.Mathlib.Omega.{arith}
-use lib.Dec.{T, ltb, ltb→lt, nltb→le, lit≤}
+use lib.Dec.{T, ltb, ltb→lt, nltb→le}
 use lib.Pow.{pow-lt, pow-pos, pow-mono}
 use lib.Ieee.Nearest.{closest}
 use borrow.Author.Needs.{needs}

@@ -1,12 +1,10 @@
 -- `numbers::parts::split` meets its contract: the pattern of a finite value is read field by field. Assumes nothing.
-use mathlib.Core.Path.{_≡_, refl, sym, ap, _∙_, subst}
-use mathlib.Core.Bool.{Bool, true}
-use Prim.Native.Nat.{ℕ, suc, _+_, _-_, _*_, _/_, _%_, _^_, _≤_, _<_}
+use mathlib.Core.Path.{_≡_, sym, subst}
+use Prim.Native.Nat.{ℕ, suc, _+_, _-_, _/_, _%_, _≤_, _<_}
 use native.Mathlib.Nat.{add-comm}
 use native.Mathlib.Omega.{arith}
 use lib.Dec.{T}
-use lib.Ieee.{Float, binary64, fits, toBits}
-use lib.Ieee.Exact.{HasValue}
+use lib.Ieee.{binary64, fits, toBits}
 use borrow.Author.Needs.{needs}
 use Rattle.numbers.proofs.Value.{finite-no-nan, field-under, value-low, value-high}
 use Rattle.numbers.proofs.parts.split.Statement.{statement}

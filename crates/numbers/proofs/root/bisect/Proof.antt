@@ -1,6 +1,5 @@
 -- `numbers::root::bisect` meets its contract. The nearest number lies above a and not above b, and the interval shrinks. Assumes nothing.
-use mathlib.Core.Path.{_≡_}
-use Prim.Native.Nat.{ℕ, _+_, _-_, _*_, _≤_, _<_}
+use Prim.Native.Nat.{_+_, _-_, _*_, _≤_, _<_}
 use native.Mathlib.Omega.{arith}
 use borrow.Author.Needs.{needs}
 use Rattle.numbers.proofs.root.NearRoots.{narrowed-down}

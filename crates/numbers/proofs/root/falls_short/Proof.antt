@@ -1,10 +1,9 @@
 -- `numbers::root::falls_short` meets its contract. Assumes nothing.
-use mathlib.Core.Path.{_≡_, sym}
-use mathlib.Core.Bool.{true, false, true≢false, false≢true}
+use mathlib.Core.Path.{_≡_}
+use mathlib.Core.Bool.{true≢false, false≢true}
 use Prim.Native.Nat.{ℕ, _+_, _*_, _/_, _%_, _≤_, _<_}
 use native.Mathlib.Omega.{arith}
 use borrow.Author.Needs.{needs}
-use Rattle.numbers.specs.Root.{Squared}
 use Rattle.numbers.proofs.root.falls_short.Statement.{statement}
 use Rattle.numbers.proofs.root.falls_short.Tie as tie
 use Rattle.numbers.proofs.root.falls_short.Reads as reads

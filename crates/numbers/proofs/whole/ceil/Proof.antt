@@ -1,5 +1,5 @@
 -- `numbers::whole::ceil` meets its contract. Assumes nothing.
-use mathlib.Core.Path.{_≡_, ap, _∙_}
+use mathlib.Core.Path.{ap, _∙_}
 use lib.Ieee.{neg}
 use borrow.Author.Needs.{needs}
 use Rattle.numbers.proofs.whole.Fractions.{above-is}

@@ -1,7 +1,7 @@
 -- `numbers::whole::floor` meets its contract. Assumes nothing.
-use mathlib.Core.Path.{_≡_, sym, ap, _∙_, subst}
+use mathlib.Core.Path.{sym, ap, _∙_, subst}
 use mathlib.Core.Bool.{Bool, cond}
-use Prim.Native.Nat.{ℕ, _-_, _/_, _^_, _≤_, _<_}
+use Prim.Native.Nat.{ℕ, _-_, _/_, _^_, _≤_}
 use lib.Dec.{T}
 use lib.Ieee.{binary64, round, fits}
 use borrow.Author.Needs.{needs}

@@ -1,6 +1,6 @@
 -- `numbers::whole::round` meets its contract. Assumes nothing.
-use mathlib.Core.Path.{_≡_, sym, ap, _∙_, subst}
-use Prim.Native.Nat.{ℕ, _-_, _^_, _≤_, _<_}
+use mathlib.Core.Path.{sym, ap, _∙_, subst}
+use Prim.Native.Nat.{ℕ, _-_, _^_, _≤_}
 use lib.Dec.{T}
 use lib.Pow.{pow-pos}
 use lib.Ieee.{binary64, round, fits}

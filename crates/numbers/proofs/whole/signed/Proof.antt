@@ -1,5 +1,5 @@
 -- `numbers::whole::signed` meets its contract. Assumes nothing.
-use mathlib.Core.Path.{_≡_, sym, ap, _∙_}
+use mathlib.Core.Path.{sym, ap, _∙_}
 use mathlib.Core.Bool.{Bool}
 use lib.Dec.{le→leb}
 use lib.Ieee.{binary64, inFloat, ofInt, round}
