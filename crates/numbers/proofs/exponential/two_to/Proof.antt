@@ -13,8 +13,6 @@ use Rattle.numbers.specs.Exponential.{twoTo}
 use Rattle.numbers.proofs.root.Rooted.{no-nan-bits}
 use Rattle.numbers.proofs.exponential.two_to.Statement.{statement}
 use Rattle.numbers.proofs.exponential.two_to.Tie as tie
-use Rattle.numbers.proofs.exponential.two_to.Reads as reads
-use Rattle.numbers.proofs.exponential.two_to.Lts as lts
 
 -- a ≤ b, as `le` tests it
 le-nat : (a b : ℕ) → T (ltb a b || (eqb a b && true)) → a ≤ b

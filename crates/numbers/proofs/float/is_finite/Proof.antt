@@ -5,8 +5,6 @@ use lib.Ieee.{Float, nan, inf, fin, lt, div, ofBits, neg}
 use lib.Ieee.Scale.{finite}
 use Rattle.numbers.proofs.float.is_finite.Statement.{statement}
 use Rattle.numbers.proofs.float.is_finite.Tie as tie
-use Rattle.numbers.proofs.float.is_finite.Reads as reads
-use Rattle.numbers.proofs.float.is_finite.Lts as lts
 
 below : (x : Float) → lt x (inf false) ≡ true → lt (inf true) x ≡ finite x
 unfolding lt

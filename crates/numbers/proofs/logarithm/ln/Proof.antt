@@ -10,8 +10,6 @@ use Rattle.numbers.specs.Logarithm.{logOf}
 use Rattle.numbers.proofs.root.Rooted.{no-nan-bits, le-no-nan}
 use Rattle.numbers.proofs.logarithm.ln.Statement.{statement}
 use Rattle.numbers.proofs.logarithm.ln.Tie as tie
-use Rattle.numbers.proofs.logarithm.ln.Reads as reads
-use Rattle.numbers.proofs.logarithm.ln.Lts as lts
 
 held : (c : tie.Start) → T (fits binary64 (c .args .v))
 held c = subst T (sym (c .good .0 .1)) tt

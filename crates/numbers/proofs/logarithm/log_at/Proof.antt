@@ -6,9 +6,6 @@ use Rattle.numbers.specs.Exponential.{hi, lo}
 use Rattle.numbers.proofs.logarithm.log_at.Statement.{statement}
 use Rattle.numbers.proofs.logarithm.log_at.Tie as tie
 
-log-twice-requires : tie.Need-log-twice-requires
-log-twice-requires c κs = search needs
-
 returns : tie.Need-returns
 unfolding ofBits
 returns c =
@@ -16,4 +13,4 @@ returns c =
     ap (λ (t : Float). add binary64 (mul binary64 e hi) (add binary64 (mul binary64 e lo) t)) (c .log-twice .ensures)
 
 pub log-at-spec : {M : Type 1} → statement M
-log-at-spec = tie.close (tie.spec log-twice-requires returns)
+log-at-spec = tie.close (tie.spec (λ c κs. search needs) returns)

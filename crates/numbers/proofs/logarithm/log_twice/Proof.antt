@@ -6,12 +6,9 @@ use Rattle.numbers.specs.Arithmetic.{two}
 use Rattle.numbers.proofs.logarithm.log_twice.Statement.{statement}
 use Rattle.numbers.proofs.logarithm.log_twice.Tie as tie
 
-log-series-requires : tie.Need-log-series-requires
-log-series-requires c κs = search needs
-
 returns : tie.Need-returns
 unfolding ofBits
 returns c = ap (λ (q : Float). mul binary64 two (mul binary64 (c .before .args .s) q)) (c .log-series .ensures)
 
 pub log-twice-spec : {M : Type 1} → statement M
-log-twice-spec = tie.close (tie.spec log-series-requires returns)
+log-twice-spec = tie.close (tie.spec (λ c κs. search needs) returns)

@@ -9,12 +9,6 @@ use Rattle.numbers.proofs.narrow.Patterns.{sign-le, over, under, few}
 use Rattle.numbers.proofs.narrow.any_bits.Statement.{statement}
 use Rattle.numbers.proofs.narrow.any_bits.Tie as tie
 
-dropped-requires : tie.Need-dropped-requires
-dropped-requires c κs = search needs
-
-sign-bit-requires : tie.Need-sign-bit-requires
-sign-bit-requires c κs = search needs
-
 add-result : tie.Need-add-result
 add-result c = omega (arith, sign-le (c .before .before .before .args .minus) (c .before .sign-bit .result) (c .before .sign-bit .ensures))
 
@@ -23,15 +17,6 @@ returns c =
     let s = c .before .before .before in
     let r = c .before .before .dropped in
     over (s .args .minus) (s .args .sig) (s .args .exp) (r .result) (c .before .sign-bit .result) (r .ensures) (c .if1 .taken) (c .before .sign-bit .ensures)
-
-add-gap : tie.Need-add-gap
-add-gap c = search needs
-
-sub-gap : tie.Need-sub-gap
-sub-gap c = search needs
-
-mul-result : tie.Need-mul-result
-mul-result c = search needs
 
 add-result-2 : tie.Need-add-result-2
 add-result-2 c =
@@ -45,12 +30,6 @@ returns-2 c =
     let s = b .before .before in
     ap (λ (x : ℕ). b .sign-bit .result + x) (sym (add-zero (r .result * 8388608)))
     ∙ under (s .args .minus) (s .args .sig) (s .args .exp) (r .result) (b .sign-bit .result) 0 (r .ensures) (c .before .if1 .left) (b .sign-bit .ensures) (sym (kept-none (s .args .sig) (925 + r .result - s .args .exp) (s .pre .0) (c .if2 .taken)))
-
-mul-result-2 : tie.Need-mul-result-2
-mul-result-2 c = search needs
-
-nearest-requires : tie.Need-nearest-requires
-nearest-requires c κs = search needs
 
 add-result-3 : tie.Need-add-result-3
 add-result-3 c =
@@ -77,17 +56,17 @@ pub any-bits-spec : {M : Type 1} → statement M
 any-bits-spec =
     tie.close
     (tie.spec
-    dropped-requires
-    sign-bit-requires
+    (λ c κs. search needs)
+    (λ c κs. search needs)
     add-result
     returns
-    add-gap
-    sub-gap
-    mul-result
+    (λ c. search needs)
+    (λ c. search needs)
+    (λ c. search needs)
     add-result-2
     returns-2
-    mul-result-2
-    nearest-requires
+    (λ c. search needs)
+    (λ c κs. search needs)
     add-result-3
     add-result-4
     returns-3)

@@ -16,11 +16,6 @@ use Rattle.numbers.specs.Narrow.{nearestF32}
 use Rattle.numbers.proofs.Encode.{round-no-nan}
 use Rattle.numbers.proofs.narrow.narrow.Statement.{statement}
 use Rattle.numbers.proofs.narrow.narrow.Tie as tie
-use Rattle.numbers.proofs.narrow.narrow.Reads as reads
-use Rattle.numbers.proofs.narrow.narrow.Lts as lts
-use Rattle.numbers.proofs.float.is_finite.Reads as is-finite-reads
-use Rattle.numbers.proofs.narrow.narrow_bits.Reads as narrow-bits-reads
-use Rattle.numbers.proofs.parts.split.Reads as split-reads
 
 by-value : (x : Float) (s : Bool) (a c : ℕ) → 0 < c → HasValue x s a c → round binary32 s a c ≡ nearestF32 x
 unfolding nearestF32
@@ -60,14 +55,8 @@ neither (inf true) h k l = absurd (true≢false l)
 neither (inf false) h k l = absurd (true≢false k)
 neither (fin s m e) h k l = absurd (true≢false h)
 
-is-finite-requires : tie.Need-is-finite-requires
-is-finite-requires c κs = search needs
-
 split-requires : tie.Need-split-requires
 split-requires c κs = subst T (sym (sym (c .before .is-finite .ensures) ∙ c .if1 .taken)) tt
-
-narrow-bits-requires : tie.Need-narrow-bits-requires
-narrow-bits-requires c κs = search needs
 
 cast-result : tie.Need-cast-result
 cast-result c =
@@ -108,9 +97,9 @@ pub narrow-spec : {M : Type 1} → statement M
 narrow-spec =
     tie.close
     (tie.spec
-    is-finite-requires
+    (λ c κs. search needs)
     split-requires
-    narrow-bits-requires
+    (λ c κs. search needs)
     cast-result
     float-from-bits-result
     returns

@@ -9,20 +9,12 @@ use borrow.Author.Needs.{needs}
 use Rattle.numbers.proofs.Value.{finite-no-nan, field-under, value-low, value-high}
 use Rattle.numbers.proofs.parts.split.Statement.{statement}
 use Rattle.numbers.proofs.parts.split.Tie as tie
-use Rattle.numbers.proofs.parts.split.Reads as reads
-use Rattle.numbers.proofs.parts.split.Lts as lts
 
 held : (c : tie.Start) → T (fits binary64 (c .args .x))
 held c = subst T (sym (c .good .0 .1)) tt
 
 float-to-bits-bits : tie.Need-float-to-bits-bits
 float-to-bits-bits c = finite-no-nan (c .args .x) (c .pre)
-
-add-t9 : tie.Need-add-t9
-add-t9 c = search needs
-
-sub-t10 : tie.Need-sub-t10
-sub-t10 c = search needs
 
 low-lt : (b : ℕ) → b % 4503599627370496 < 9007199254740992
 low-lt b = omega arith
@@ -59,4 +51,11 @@ returns-2 c =
     }
 
 pub split-spec : {M : Type 1} → statement M
-split-spec = tie.close (tie.spec float-to-bits-bits add-t9 sub-t10 returns returns-2)
+split-spec =
+    tie.close
+    (tie.spec
+    float-to-bits-bits
+    (λ c. search needs)
+    (λ c. search needs)
+    returns
+    returns-2)

@@ -6,8 +6,6 @@ use native.Mathlib.Omega.{arith}
 use borrow.Author.Needs.{needs}
 use Rattle.numbers.proofs.root.falls_short.Statement.{statement}
 use Rattle.numbers.proofs.root.falls_short.Tie as tie
-use Rattle.numbers.proofs.root.falls_short.Reads as reads
-use Rattle.numbers.proofs.root.falls_short.Lts as lts
 
 module _ (q c t l hi lo : ℕ) (is : t * 18014398509481984 + l ≡ q) (small : lo < 18014398509481984) where
   less : t + (l + c) / 18014398509481984 < hi → q + c < hi * 18014398509481984 + lo
@@ -21,15 +19,6 @@ module _ (q c t l hi lo : ℕ) (is : t * 18014398509481984 + l ≡ q) (small : l
 
   more-rest : hi ≤ t + (l + c) / 18014398509481984 → t + (l + c) / 18014398509481984 ≤ hi → lo ≤ (l + c) % 18014398509481984 → hi * 18014398509481984 + lo ≤ q + c
   more-rest h g k = omega arith
-
-square-requires : tie.Need-square-requires
-square-requires c κs = search needs
-
-add-low : tie.Need-add-low
-add-low c = search needs
-
-add-top : tie.Need-add-top
-add-top c = search needs
 
 returns : tie.Need-returns
 returns c =
@@ -60,4 +49,13 @@ returns-4 c =
     (λ e. absurd (false≢true e), λ e. more-rest (x * x) x (b .square .result .top) (b .square .result .low) (s .args .hi) (s .args .lo) (b .square .ensures .is) (s .pre .1) (c .before .before .if1 .left) (c .before .if2 .left) (c .if3 .left))
 
 pub falls-short-spec : {M : Type 1} → statement M
-falls-short-spec = tie.close (tie.spec square-requires add-low add-top returns returns-2 returns-3 returns-4)
+falls-short-spec =
+    tie.close
+    (tie.spec
+    (λ c κs. search needs)
+    (λ c. search needs)
+    (λ c. search needs)
+    returns
+    returns-2
+    returns-3
+    returns-4)

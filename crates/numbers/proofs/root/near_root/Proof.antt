@@ -4,17 +4,14 @@ use borrow.Author.Needs.{needs}
 use Rattle.numbers.proofs.root.near_root.Statement.{statement}
 use Rattle.numbers.proofs.root.near_root.Tie as tie
 
-polish-requires : tie.Need-polish-requires
-polish-requires c κs = search needs
-
-bisect-requires : tie.Need-bisect-requires
-bisect-requires c κs = search needs
-
-returns : tie.Need-returns
-returns c = search needs
-
 returns-2 : tie.Need-returns-2
 returns-2 c = ⊎-elim (λ e. absurd (c .if1 .left e)) (λ n. n) (c .before .polish .ensures)
 
 pub near-root-spec : {M : Type 1} → statement M
-near-root-spec = tie.close (tie.spec polish-requires bisect-requires returns returns-2)
+near-root-spec =
+    tie.close
+    (tie.spec
+    (λ c κs. search needs)
+    (λ c κs. search needs)
+    (λ c. search needs)
+    returns-2)

@@ -13,17 +13,8 @@ use Rattle.numbers.proofs.whole.floor.Tie as tie
 held : (c : tie.Start) → T (fits binary64 (c .args .x))
 held c = subst T (sym (c .good .0 .1)) tt
 
-is-finite-requires : tie.Need-is-finite-requires
-is-finite-requires c κs = search needs
-
 split-requires : tie.Need-split-requires
 split-requires c κs = subst T (sym (sym (c .before .is-finite .ensures) ∙ c .if1 .taken)) tt
-
-sub-cut-up : tie.Need-sub-cut-up
-sub-cut-up c = search needs
-
-cut-up-requires : tie.Need-cut-up-requires
-cut-up-requires c κs = search needs
 
 signed-requires : tie.Need-signed-requires
 signed-requires c κs =
@@ -37,12 +28,6 @@ returns c =
     c .signed .ensures
     ∙ ap (λ (k : ℕ). round binary64 (p .result .minus) k 1) (c .before .cut-up .ensures ∙ sym (ap (λ (t : Bool). cond t (upward (p .result .sig) (2 ^ (1074 - p .result .exp))) (p .result .sig / 2 ^ (1074 - p .result .exp))) (c .before .before .before .if3 .taken)))
     ∙ below-small (b .before .before .before .args .x) (p .result .minus) (p .result .sig) (p .result .exp) (p .ensures .value) (c .before .before .before .before .if2 .taken)
-
-sub-cut : tie.Need-sub-cut
-sub-cut c = search needs
-
-cut-requires : tie.Need-cut-requires
-cut-requires c κs = search needs
 
 signed-requires-2 : tie.Need-signed-requires-2
 signed-requires-2 c κs =
@@ -73,14 +58,14 @@ pub floor-spec : {M : Type 1} → statement M
 floor-spec =
     tie.close
     (tie.spec
-    is-finite-requires
+    (λ c κs. search needs)
     split-requires
-    sub-cut-up
-    cut-up-requires
+    (λ c. search needs)
+    (λ c κs. search needs)
     signed-requires
     returns
-    sub-cut
-    cut-requires
+    (λ c. search needs)
+    (λ c κs. search needs)
     signed-requires-2
     returns-2
     returns-3

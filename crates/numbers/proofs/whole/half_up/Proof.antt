@@ -5,17 +5,8 @@ use Rattle.numbers.proofs.whole.Fractions.{half-none, half-shift, half-
 use Rattle.numbers.proofs.whole.half_up.Statement.{statement}
 use Rattle.numbers.proofs.whole.half_up.Tie as tie
 
-sub-result : tie.Need-sub-result
-sub-result c = search needs
-
-shl-result : tie.Need-shl-result
-shl-result c = search needs
-
 add-result : tie.Need-add-result
 add-result c = omega (arith, half-fits (c .before .args .sig) (c .before .args .gap) (c .before .pre .0) (c .if1 .left))
-
-shr-result : tie.Need-shr-result
-shr-result c = search needs
 
 returns : tie.Need-returns
 returns c = half-none (c .before .args .sig) (c .before .args .gap) (c .before .pre .0) (c .if1 .taken)
@@ -24,4 +15,12 @@ returns-2 : tie.Need-returns-2
 returns-2 c = half-shift (c .before .args .sig) (c .before .args .gap) (c .before .pre .1) (c .if1 .left)
 
 pub half-up-spec : {M : Type 1} → statement M
-half-up-spec = tie.close (tie.spec sub-result shl-result add-result shr-result returns returns-2)
+half-up-spec =
+    tie.close
+    (tie.spec
+    (λ c. search needs)
+    (λ c. search needs)
+    add-result
+    (λ c. search needs)
+    returns
+    returns-2)

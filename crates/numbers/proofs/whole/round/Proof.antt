@@ -8,23 +8,12 @@ use borrow.Author.Needs.{needs}
 use Rattle.numbers.proofs.whole.Fractions.{nearest-small, nearest-large, nearest-other, halfUp-le}
 use Rattle.numbers.proofs.whole.round.Statement.{statement}
 use Rattle.numbers.proofs.whole.round.Tie as tie
-use Rattle.numbers.proofs.whole.round.Reads as reads
-use Rattle.numbers.proofs.whole.round.Lts as lts
 
 held : (c : tie.Start) → T (fits binary64 (c .args .x))
 held c = subst T (sym (c .good .0 .1)) tt
 
-is-finite-requires : tie.Need-is-finite-requires
-is-finite-requires c κs = search needs
-
 split-requires : tie.Need-split-requires
 split-requires c κs = subst T (sym (sym (c .before .is-finite .ensures) ∙ c .if1 .taken)) tt
-
-sub-half-up : tie.Need-sub-half-up
-sub-half-up c = search needs
-
-half-up-requires : tie.Need-half-up-requires
-half-up-requires c κs = search needs
 
 signed-requires : tie.Need-signed-requires
 signed-requires c κs =
@@ -56,10 +45,10 @@ pub round-spec : {M : Type 1} → statement M
 round-spec =
     tie.close
     (tie.spec
-    is-finite-requires
+    (λ c κs. search needs)
     split-requires
-    sub-half-up
-    half-up-requires
+    (λ c. search needs)
+    (λ c κs. search needs)
     signed-requires
     returns
     returns-2
