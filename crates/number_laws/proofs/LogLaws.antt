@@ -11,10 +11,10 @@ use Rattle.numbers.specs.Arithmetic.{_⊕_, _⊖_, _⊗_, _⊘_, zero⁺, one, 
 use Rattle.numbers.specs.Exponential.{hi, lo, ln10}
 use Rattle.numbers.specs.Logarithm.{smallestNormal, sqrt2, half, mantissa, exponent, logTwice, logAt, logHalved, logOf, log10Of}
 use Rattle.numbers.proofs.Value.{finite-no-nan}
-use Rattle.number_laws.specs.LogLaws.{Normal, LogFinite, LogNotNegative, LogMost, Log10Finite, Log10Infinite}
+use Rattle.number_laws.specs.LogLaws.{logMost, logMost⁻, logMost₃₂, log10Most, LogFinite, LogNotNegative, LogMost, Log10Finite, Log10Infinite}
 use Rattle.number_laws.proofs.Mantissa.{mantissa-range, exponent-range, exponent-from-one, exponent-to-128}
 use Rattle.number_laws.proofs.LogSeries.{quarter, fiveEighths, twice-at-most, twice-not-negative}
-use Rattle.number_laws.specs.Values.{magnitude, AtMost, NotNegative, Between}
+use Rattle.number_laws.specs.Values.{Normal, magnitude, AtMost, NotNegative, Between}
 use Rattle.number_laws.proofs.Order.{le-transitive, lt→le, not-lt→le, wider, between-finite, at-most-between, between-at-most, at-most-finite, magnitude-above, positive-above}
 use Rattle.number_laws.proofs.Sums.{sub-mono, sub-not-negative, add-mono, add-between}
 use Rattle.number_laws.proofs.Products.{div-at-most, div-not-negative, mul-between-by}
@@ -106,19 +106,19 @@ tame-high : Tame highest fiveEighths
 unfolding ofBits mul add
 tame-high = (tt, tt, tt, tt, tt)
 
-at-bounded : (m e : Float) → AtMost quarter (ratio m) → Between lowest highest e → Between (fin true 711 (pos 0)) (fin false 711 (pos 0)) (logAt m e)
-at-bounded m e s b = wider (total lowest fiveEighths⁻) (total highest fiveEighths) (fin true 711 (pos 0)) (fin false 711 (pos 0)) (logAt m e) low high
+at-bounded : (m e : Float) → AtMost quarter (ratio m) → Between lowest highest e → Between logMost⁻ logMost (logAt m e)
+at-bounded m e s b = wider (total lowest fiveEighths⁻) (total highest fiveEighths) logMost⁻ logMost (logAt m e) low high
     (total-between lowest highest fiveEighths⁻ fiveEighths e (logTwice (ratio m)) tame-low tame-high b (twice-between m s))
   where
-    low : T (le (fin true 711 (pos 0)) (total lowest fiveEighths⁻))
+    low : T (le logMost⁻ (total lowest fiveEighths⁻))
     low = unfold ofBits mul add le in tt
 
-    high : T (le (total highest fiveEighths) (fin false 711 (pos 0)))
+    high : T (le (total highest fiveEighths) logMost)
     high = unfold ofBits mul add le in tt
 
 -- e up to 129
-at-most-91 : (m e : Float) → AtMost quarter (ratio m) → Between lowest (fin false 129 (pos 0)) e → T (le (logAt m e) (fin false 91 (pos 0)))
-at-most-91 m e s b = le-transitive (logAt m e) (total (fin false 129 (pos 0)) fiveEighths) (fin false 91 (pos 0))
+at-most-91 : (m e : Float) → AtMost quarter (ratio m) → Between lowest (fin false 129 (pos 0)) e → T (le (logAt m e) logMost₃₂)
+at-most-91 m e s b = le-transitive (logAt m e) (total (fin false 129 (pos 0)) fiveEighths) logMost₃₂
     (total-between lowest (fin false 129 (pos 0)) fiveEighths⁻ fiveEighths e (logTwice (ratio m)) tame-low (unfold ofBits mul add in (tt, tt, tt, tt, tt)) b (twice-between m s) .to)
     (unfold ofBits mul add le in tt)
 
@@ -173,14 +173,14 @@ module _ (v : Float) (n : Normal v) where
   next : (a b : Float) → T (finite a) → T (finite b) → Between a b (exponent v) → Between (a ⊕ one) (b ⊕ one) (exponent v ⊕ one)
   next a b A B e-in = add-between binary64 a b one one (exponent v) one A B tt tt e-in (record { from = unfold le in tt; to = unfold le in tt })
 
-  log-between : Between (fin true 711 (pos 0)) (fin false 711 (pos 0)) (logOf v)
-  log-between = by-cases (Between (fin true 711 (pos 0)) (fin false 711 (pos 0))) v n
+  log-between : Between logMost⁻ logMost (logOf v)
+  log-between = by-cases (Between logMost⁻ logMost) v n
       (λ h. at-bounded (mantissa v ⊗ half) (exponent v ⊕ one) (halved-mantissa h)
       (wider (lowest ⊕ one) (fin false 1023 (pos 0) ⊕ one) lowest highest (exponent v ⊕ one) (unfold add le in tt) (unfold add le in tt) (next lowest (fin false 1023 (pos 0)) tt tt exponent-between)))
       (λ h. at-bounded (mantissa v) (exponent v) (plain-ratio (mantissa v) (plain-mantissa h)) (wider lowest (fin false 1023 (pos 0)) lowest highest (exponent v) (unfold le in tt) (unfold le in tt) exponent-between))
 
 pub log-finite : LogFinite
-log-finite v n = let b = log-between v n in record { finite-is = between-finite (fin true 711 (pos 0)) (fin false 711 (pos 0)) (logOf v) tt tt b; from = b .from; to = b .to }
+log-finite v n = let b = log-between v n in record { finite-is = between-finite logMost⁻ logMost (logOf v) tt tt b; between = b }
 
 pub log-not-negative : LogNotNegative
 log-not-negative v n h =
@@ -193,7 +193,7 @@ log-not-negative v n h =
 pub log-most : LogMost
 log-most v n h =
     let e-in : Between lowest (fin false 1 (pos 7)) (exponent v) = record { from = exponent-range v n .0; to = exponent-to-128 v n h } in
-    by-cases (λ (x : Float). T (le x (fin false 91 (pos 0)))) v n
+    by-cases (λ (x : Float). T (le x logMost₃₂)) v n
     (λ l. at-most-91 (mantissa v ⊗ half) (exponent v ⊕ one) (halved-mantissa v n l)
     (wider (lowest ⊕ one) (fin false 1 (pos 7) ⊕ one) lowest (fin false 129 (pos 0)) (exponent v ⊕ one) (unfold add le in tt) (unfold add le in tt) (next v n lowest (fin false 1 (pos 7)) tt tt e-in)))
     (λ l. at-most-91 (mantissa v) (exponent v) (plain-ratio (mantissa v) (plain-mantissa v n l)) (wider lowest (fin false 1 (pos 7)) lowest (fin false 129 (pos 0)) (exponent v) (unfold le in tt) (unfold le in tt) e-in))
@@ -203,10 +203,9 @@ pub log10-finite : Log10Finite
 unfolding log10Of neg
 log10-finite v n =
     let l = log-between v n in
-    let d = div-at-most binary64 (logOf v) ln10 (fin false 711 (pos 0)) (fin false 2357 (negsuc 9)) tt tt (between-at-most (fin false 711 (pos 0)) (logOf v) l) (unfold ofBits magnitude le in tt) in
-    let q : AtMost (fin false 309 (pos 0)) (logOf v ⊘ ln10) = le-transitive (magnitude (logOf v ⊘ ln10)) (fin false 711 (pos 0) ⊘ fin false 2357 (negsuc 9)) (fin false 309 (pos 0)) d (unfold div le in tt) in
-    let b = at-most-between (fin false 309 (pos 0)) (logOf v ⊘ ln10) q in
-    record { finite-is = at-most-finite (fin false 309 (pos 0)) (logOf v ⊘ ln10) tt q; from = b .from; to = b .to }
+    let d = div-at-most binary64 (logOf v) ln10 logMost (fin false 2357 (negsuc 9)) tt tt (between-at-most logMost (logOf v) l) (unfold ofBits magnitude le in tt) in
+    let q : AtMost log10Most (logOf v ⊘ ln10) = le-transitive (magnitude (logOf v ⊘ ln10)) (logMost ⊘ fin false 2357 (negsuc 9)) log10Most d (unfold div le in tt) in
+    record { finite-is = at-most-finite log10Most (logOf v ⊘ ln10) tt q; between = at-most-between log10Most (logOf v ⊘ ln10) q }
 
 pub log10-infinite : Log10Infinite
 unfolding log10Of logOf ofBits le lt div

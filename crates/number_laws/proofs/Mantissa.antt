@@ -20,7 +20,8 @@ use Rattle.numbers.specs.Arithmetic.{_⊖_, zero⁺, one, two}
 use Rattle.numbers.specs.Exponential.{bias}
 use Rattle.numbers.specs.Logarithm.{smallestNormal, mantissa, exponent}
 use Rattle.numbers.proofs.Value.{field-under, value-low, value-high, by-fields, at-some}
-use Rattle.number_laws.specs.LogLaws.{Normal, Splits}
+use Rattle.number_laws.specs.LogLaws.{beyond₃₂, Splits}
+use Rattle.number_laws.specs.Values.{Normal}
 use Rattle.number_laws.proofs.Order.{positive-above}
 use Rattle.number_laws.proofs.Sums.{sub-mono}
 
@@ -274,8 +275,8 @@ module _ (v : Float) (n : Normal v) where
       exponent-least 1023 (place-from-one (r .digits) (r .place) (digits-below v r) (values-of-le one v 1 1 (r .digits * 2 ^ r .place) (2 ^ 1074) tt (normal-positive v n) (refl, refl) (r .value) h))
 
   -- v ≤ 2^128 makes e ≤ 128
-  pub exponent-to-128 : T (le v (fin false 1 (pos 128))) → T (le (exponent v) (fin false 1 (pos 7)))
+  pub exponent-to-128 : T (le v beyond₃₂) → T (le (exponent v) (fin false 1 (pos 7)))
   unfolding ofInt sub ofBits
   exponent-to-128 h =
       let r = fields-of v n in
-      exponent-most 1151 (place-to-128 (r .digits) (r .place) (digits-at-least v r) (values-of-le v (fin false 1 (pos 128)) (r .digits * 2 ^ r .place) (2 ^ 1074) (2 ^ 128) 1 (normal-positive v n) tt (r .value) (refl, refl) h)) (omega arith)
+      exponent-most 1151 (place-to-128 (r .digits) (r .place) (digits-at-least v r) (values-of-le v beyond₃₂ (r .digits * 2 ^ r .place) (2 ^ 1074) (2 ^ 128) 1 (normal-positive v n) tt (r .value) (refl, refl) h)) (omega arith)

@@ -8,19 +8,20 @@ use mathlib.Core.Bool.{Bool, true, false}
 use lib.Dec.{T, ltb→lt, lt→ltb}
 use lib.Pow.{pow-pos}
 use lib.Count.{trailingZeros}
-use lib.Ieee.{Float, nan, inf, fin, binary64, up, down, size, climb, span, odd, units, fits, le, lt}
+use lib.Ieee.{Float, nan, inf, fin, binary64, up, down, size, climb, span, odd, units, ofBits, ofFields, fits, le, lt, eq}
 use lib.Ieee.Fits.{up-pos}
 use lib.Ieee.Order.{le-of-values}
 use lib.Ieee.Positive.{positive, above, positive-finite, first-pos, value-pos, values-of-le, above-of-le}
 use lib.Ieee.Scale.{finite}
 use Rattle.numbers.specs.Arithmetic.{zero⁺}
+use Rattle.numbers.specs.Logarithm.{smallestNormal}
 use Rattle.numbers.specs.Root.{rootFrom, nearRoot, rootUnits, rootOf}
 use Rattle.numbers.proofs.root.Rooted.{root-value, root-fits, root-closest, root-positive, A}
 use Rattle.numbers.proofs.Value.{finite-no-nan}
 use Rattle.number_laws.specs.Values.{Units}
-use Rattle.number_laws.specs.RootLaws.{NearestRoot, RootNearest, RootMonotone, leastNormal, leastNormalRoot, RootNormal}
+use Rattle.number_laws.specs.RootLaws.{NearestRoot, RootNearest, RootMonotone, smallestNormalRoot, RootNormal}
 use Rattle.number_laws.proofs.Placed.{placed, placed-units, units-finite}
-use Rattle.number_laws.proofs.Order.{P, N, fromS, toS, le-transitive, most-of-all, positive-above}
+use Rattle.number_laws.proofs.Order.{P, N, fromS, toS, le-transitive, most-of-all, positive-above, positive-not-negative}
 
 -- ---- the nearest
 positive-sign : (x : Float) (s : Bool) (n : ℕ) → T (positive x) → Units binary64 x s n → s ≡ false
@@ -145,21 +146,24 @@ root-monotone x y F G h k =
     ]
 
 -- ---- the roots of normals
-root-of-least-normal : rootOf leastNormal ≡ leastNormalRoot
-unfolding rootOf rootUnits nearRoot rootFrom size climb span units odd trailingZeros
-root-of-least-normal = refl
+root-of-smallest : rootOf smallestNormal ≡ smallestNormalRoot
+unfolding rootOf rootUnits nearRoot rootFrom size climb span units odd trailingZeros ofBits ofFields
+root-of-smallest = refl
 
-least-normal-fits : T (fits binary64 leastNormal)
-unfolding fits
-least-normal-fits = tt
+smallest-positive : T (positive smallestNormal)
+unfolding ofBits ofFields odd trailingZeros
+smallest-positive = tt
 
 pub root-normal : RootNormal
-root-normal x F f h =
-    let p : T (positive x) = positive-above leastNormal x tt f h in
-    let n = positive-nearest x F p in
-    let l : T (le leastNormalRoot (rootOf x)) = subst (λ (v : Float). T (le v (rootOf x))) root-of-least-normal (root-monotone leastNormal x least-normal-fits F (unfold le in tt) h) in
+root-normal x v =
+    let p : T (positive x) = positive-above smallestNormal x smallest-positive (v .finite-is) (v .least) in
+    let n = positive-nearest x (v .held) p in
+    let l : T (le smallestNormalRoot (rootOf x)) = rw root-of-smallest at (root-monotone smallestNormal x (unfold fits ofBits ofFields odd trailingZeros in tt) (v .held) (positive-not-negative smallestNormal smallest-positive) (v .least)) in
     record {
-      finite-is = units-finite binary64 (rootOf x) false (n .root) (n .value);
+      normal = record {
+        held = n .held;
+        finite-is = units-finite binary64 (rootOf x) false (n .root) (n .value);
+        least = le-transitive smallestNormal smallestNormalRoot (rootOf x) (unfold le lt eq ofBits ofFields odd trailingZeros in tt) l;
+      };
       large = l;
-      normal = le-transitive leastNormal leastNormalRoot (rootOf x) (unfold le in tt) l;
     }

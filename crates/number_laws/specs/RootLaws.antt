@@ -7,7 +7,7 @@ use lib.Ieee.{Float, fin, binary64, low, fits, le, lt}
 use lib.Ieee.Scale.{finite}
 use Rattle.numbers.specs.Arithmetic.{zero⁺}
 use Rattle.numbers.specs.Root.{rootOf}
-use Rattle.number_laws.specs.Values.{Units}
+use Rattle.number_laws.specs.Values.{Normal, NotNegative, Units}
 
 -- r is the f64 nearest to √x, and no other is as near. In units of 2 ^ -1074, x is `radicand` and r is `root`, so √x is √(radicand * 2 ^ 1074).
 -- Over every f64 y that is not negative, of n units: where y lies above r, the middle (root + n) / 2 lies above √x, and where y lies below r, the middle lies below √x. So √x lies on r's side of it.
@@ -27,20 +27,16 @@ RootNearest = (x : Float) → T (fits binary64 x) → T (finite x) → T (lt zer
 
 -- Of two f64 that are not negative, -0 and infinity included, the larger has no smaller root.
 abbrev pub RootMonotone : Type 0
-RootMonotone = (x y : Float) → T (fits binary64 x) → T (fits binary64 y) → T (le zero⁺ x) → T (le x y) → T (le (rootOf x) (rootOf y))
+RootMonotone = (x y : Float) → T (fits binary64 x) → T (fits binary64 y) → NotNegative x → T (le x y) → T (le (rootOf x) (rootOf y))
 
--- 2 ^ -1022, the smallest normal f64 above zero, and 2 ^ -511, its root
-abbrev pub leastNormal : Float
-leastNormal = fin false 1 (negsuc 1021)
+-- 2 ^ -511, the root of 2 ^ -1022
+abbrev pub smallestNormalRoot : Float
+smallestNormalRoot = fin false 1 (negsuc 510)
 
-abbrev pub leastNormalRoot : Float
-leastNormalRoot = fin false 1 (negsuc 510)
-
--- The root of a positive normal is finite and 2 ^ -511 at least, so a positive normal too.
+-- The root of a normal f64 above zero is 2 ^ -511 at least, and a normal too.
 pub record NormalRoot (r : Float) : Type 0 where
-  pub finite-is : T (finite r)
-  pub large : T (le leastNormalRoot r)
-  pub normal : T (le leastNormal r)
+  pub normal : Normal r
+  pub large : T (le smallestNormalRoot r)
 
 abbrev pub RootNormal : Type 0
-RootNormal = (x : Float) → T (fits binary64 x) → T (finite x) → T (le leastNormal x) → NormalRoot (rootOf x)
+RootNormal = (x : Float) → Normal x → NormalRoot (rootOf x)

@@ -3,14 +3,21 @@ use Prim.Native.Nat.{ℕ, suc, _+_, _-_, _*_, _^_, _≤_, _<_}
 use mathlib.Core.Bool.{Bool, Bool·beq, cond, false, not}
 use mathlib.Core.List.{List, [], _∷_}
 use lib.Dec.{T}
-use lib.Ieee.{Float, nan, inf, fin, Format, prec, emax, low, up, down, add, le, isNan}
+use lib.Ieee.{Float, nan, inf, fin, Format, binary64, prec, emax, low, up, down, add, le, fits, isNan}
 use lib.Ieee.Exact.{HasValue}
 use lib.Ieee.Scale.{finite}
 use Rattle.numbers.specs.Arithmetic.{zero⁺}
+use Rattle.numbers.specs.Logarithm.{smallestNormal}
 
 -- x is no NaN.
 abbrev pub Number : Float → Type 0
 Number x = T (not (isNan x))
+
+-- v is a normal f64 above zero: finite, and 2 ^ -1022 or more.
+pub record Normal (v : Float) : Type 0 where
+  pub held : T (fits binary64 v)
+  pub finite-is : T (finite v)
+  pub least : T (le smallestNormal v)
 
 -- ---- finite values as whole numbers
 -- |x| is size x / Den x, for a finite x.

@@ -1,5 +1,5 @@
 -- L, for the natural logarithm, `ln_1p` and `log10` (document 01, Numbers: replaced functions). Definitions only.
-use Prim.Native.Nat.{ℕ, zero, suc, _+_, _*_, _/_, _%_}
+use Prim.Native.Nat.{ℕ, zero, suc, _+_, _*_, _/_, _%_, _^_}
 use mathlib.Core.Bool.{cond, false}
 use lib.IntN.{pos}
 use lib.Ieee.{Float, nan, inf, binary64, lt, le, ofBits, toBits, ofInt}
@@ -39,10 +39,10 @@ logAt m e = e ⊗ hi ⊕ (e ⊗ lo ⊕ logTwice ((m ⊖ one) ⊘ (m ⊕ one)))
 
 -- A positive normal v is m × 2^e with 1 ≤ m < 2: the digits' field under the exponent of 1, and the exponent's field less 1023. That v = m × 2^e is a theorem: `Split` of number_laws.
 abbrev pub mantissa : Float → Float
-mantissa v = ofBits binary64 (toBits binary64 v % 4503599627370496 + 4607182418800017408)
+mantissa v = ofBits binary64 (toBits binary64 v % 2 ^ 52 + 1023 * 2 ^ 52)
 
 abbrev pub exponent : Float → Float
-exponent v = ofInt binary64 (pos (toBits binary64 v / 4503599627370496)) ⊖ bias
+exponent v = ofInt binary64 (pos (toBits binary64 v / 2 ^ 52)) ⊖ bias
 
 -- if m > 1.4142135623730951, halve m and add 1 to e
 abbrev pub logHalved : Float → Float → Float

@@ -44,6 +44,6 @@ pub record NearRoot (n c : ℕ) : Type 0 where
 
 -- c * c in two parts: top * 2 ^ 54 + low.
 pub record Squared (c top low : ℕ) : Type 0 where
-  pub is : top * 18014398509481984 + low ≡ c * c
-  pub low-lt : low < 36028797018963968
-  pub top-le : top ≤ 9007199254740992
+  pub is : top * 2 ^ 54 + low ≡ c * c
+  pub low-lt : low < 2 ^ 55
+  pub top-le : top ≤ 2 ^ 53
