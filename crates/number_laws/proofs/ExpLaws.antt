@@ -16,14 +16,14 @@ use lib.Pow.{pow-pos, pow-mono}
 use Rattle.numbers.specs.Arithmetic.{_⊕_, _⊗_, _⊘_, zero⁺, one, two}
 use Rattle.numbers.specs.Exponential.{limit, limit⁻, ln10, twoTo, expSeries, expWhole, expRest, expAt, expOf, tenTo}
 use Rattle.numbers.proofs.Value.{finite-no-nan}
-use Rattle.number_laws.specs.ExpLaws.{restMost, sumLeast, sumMost, ExpSeriesBounded, ExpLaws, ExpHasLaws, tenMost, tenMost⁻, TenToHasLaws}
-use Rattle.number_laws.proofs.TwoTo.{signed, two-to-whole}
-use Rattle.number_laws.proofs.ExpReduced.{Reduced, limited, reduced}
 use Rattle.number_laws.specs.Values.{Number, magnitude, AtMost, Between, Monotone}
+use Rattle.number_laws.specs.ExpLaws.{restMost, sumLeast, sumMost, ExpSeriesBounded, Exponential, ExpLaws, tenMost, tenMost⁻, TenToLaws}
 use Rattle.number_laws.proofs.Order.{P, le-self, lt→le, not-lt→le, le→not-lt, le-transitive, wider, at-most-between, between-at-most}
 use Rattle.number_laws.proofs.Rounding.{magnitude-round}
 use Rattle.number_laws.proofs.Sums.{add-between}
 use Rattle.number_laws.proofs.Products.{mul-at-most, div-at-most, mul-number, mul-mono-by-positive}
+use Rattle.number_laws.proofs.TwoTo.{signed, two-to-whole}
+use Rattle.number_laws.proofs.ExpReduced.{Reduced, limited, reduced}
 
 -- ---- the series
 -- 21/32, which is 3/8 × 7/4, and its quotient by 1
@@ -184,7 +184,10 @@ module _ (x : Float) where
   unfolding expOf
   inside-is l h = rw (is-false (lt x limit⁻) l, is-false (lt limit x) h) refl
 
-low-zero : (x : Float) → T (lt x limit⁻) → ExpLaws x
+abbrev Laws : Float → Type 0
+Laws = Exponential expOf limit⁻ limit
+
+low-zero : (x : Float) → T (lt x limit⁻) → Laws x
 low-zero x h = record {
   number = rw (low-is x h) (unfold isNan in tt);
   not-negative = rw (low-is x h) (le-self zero⁺ tt);
@@ -193,7 +196,7 @@ low-zero x h = record {
   at-most-two = λ l. rw (low-is x h) (unfold le lt eq in tt);
 }
 
-high-infinite : (x : Float) → T (not (lt x limit⁻)) → T (lt limit x) → ExpLaws x
+high-infinite : (x : Float) → T (not (lt x limit⁻)) → T (lt limit x) → Laws x
 high-infinite x l h = record {
   number = rw (high-is x l h) (unfold isNan in tt);
   not-negative = rw (high-is x l h) (unfold le lt eq in tt);
@@ -202,7 +205,7 @@ high-infinite x l h = record {
   at-most-two = λ k. absurd (T-not (lt limit x) (le→not-lt limit x (le-transitive x zero⁺ limit k zero-limit)) h);
 }
 
-inside : (x : Float) → Number x → T (not (lt x limit⁻)) → T (not (lt limit x)) → ExpLaws x
+inside : (x : Float) → Number x → T (not (lt x limit⁻)) → T (not (lt limit x)) → Laws x
 inside x N l h =
     let k = limited x (record { from = not-lt→le x limit⁻ N limit⁻-number l; to = not-lt→le limit x limit-number N h }) in
     let r = reduced x (k .0) (k .1) in
@@ -215,10 +218,10 @@ inside x N l h =
       at-most-two = λ j. rw (inside-is x l h) (inside-at-most x r j);
     }
 
-pub exp-laws : ExpHasLaws
+pub exp-laws : ExpLaws
 exp-laws x N = go (lt x limit⁻) (lt limit x) (low-zero x) (high-infinite x) (inside x N)
   where
-    go : (b c : Bool) → (T b → ExpLaws x) → (T (not b) → T c → ExpLaws x) → (T (not b) → T (not c) → ExpLaws x) → ExpLaws x
+    go : (b c : Bool) → (T b → Laws x) → (T (not b) → T c → Laws x) → (T (not b) → T (not c) → Laws x) → Laws x
     go true c f g i = f tt
     go false true f g i = g tt tt
     go false false f g i = i tt tt
@@ -243,7 +246,7 @@ ten-zero : T (le (zero⁺ ⊗ ln10) zero⁺)
 unfolding le lt eq mul round units size span climb ofBits ofFields odd trailingZeros
 ten-zero = tt
 
-pub ten-to-laws : TenToHasLaws
+pub ten-to-laws : TenToLaws
 unfolding tenTo
 ten-to-laws y h =
     let l = exp-laws (y ⊗ ln10) (mul-number binary64 y ln10 ln10-positive h) in

@@ -17,8 +17,8 @@ use lib.Ieee.Scale.{finite}
 use Rattle.numbers.specs.Arithmetic.{_⊕_, _⊖_, _⊗_, zero⁺}
 use Rattle.numbers.specs.Whole.{halfUp, wholeNearest}
 use Rattle.numbers.specs.Exponential.{limit, limit⁻, log2e, hi, lo, expWhole, expRest}
-use Rattle.number_laws.specs.ExpLaws.{restMost, ExpReduces}
 use Rattle.number_laws.specs.Values.{magnitude, AtMost, Between}
+use Rattle.number_laws.specs.ExpLaws.{restMost, ExpReduces}
 use Rattle.number_laws.proofs.Order.{P, Below, le→below, cross, le-self, le-transitive, between-finite, at-most-between, between-at-most}
 use Rattle.number_laws.proofs.Rounding.{sided, round-sided, magnitude-round}
 use Rattle.number_laws.proofs.Sums.{sub-at-most}

@@ -1,40 +1,33 @@
 -- `ln_1p` of an f32 that is finite and not negative: finite, not negative, at most 91. Assumes nothing.
 use mathlib.Core.Path.{refl}
-use Prim.Native.Nat.{ℕ, zero, suc, _+_, _*_, _%_, _^_, _≤_}
+use Prim.Native.Nat.{ℕ, _+_, _*_, _^_, _≤_}
 use native.Mathlib.Nat.{le-of-lt, zero-mul, one-mul}
 use native.Mathlib.Omega.{arith}
-use mathlib.Core.Bool.{Bool, true, false, cond, _&&_}
-use lib.IntN.{ℤ, negsuc}
-use lib.Dec.{T, ltb, leb, eqb, ltb→lt, not-T}
+use mathlib.Core.Bool.{Bool, true, false, cond}
+use lib.IntN.{negsuc}
+use lib.Dec.{T, not-T}
 use lib.Ieee.{Float, nan, inf, fin, binary32, binary64, up, down, add, mul, div, neg, le, ofBits, ofInt, fits, round, isNan}
-use lib.Ieee.Fits.{add-fits, and-r}
+use lib.Ieee.Fits.{add-fits}
 use lib.Ieee.Scale.{finite}
 use Rattle.numbers.specs.Arithmetic.{_⊕_, _⊘_, zero⁺, one, two}
 use Rattle.numbers.specs.Narrow.{nearestF32}
 use Rattle.numbers.specs.Logarithm.{smallestNormal, seriesMost, logSeries, logTwice, logOf, log1pWide, log1pOf}
 use Rattle.numbers.proofs.Value.{finite-no-nan}
-use Rattle.number_laws.specs.LogLaws.{logMost₃₂, beyond₃₂, log1pBeyond, Log1pFinite, Log1pZeros}
-use Rattle.number_laws.proofs.LogSeries.{quarter, fiveEighths, twice-at-most, twice-not-negative}
-use Rattle.number_laws.proofs.LogLaws.{log-not-negative, log-most}
 use Rattle.number_laws.specs.Values.{Normal, magnitude, AtMost, NotNegative, Between}
+use Rattle.number_laws.specs.LogLaws.{logMost₃₂, beyond₃₂, log1pBeyond, Log1pFinite, Log1pZeros}
 use Rattle.number_laws.proofs.Order.{P, N, below→le, le-transitive, not-le→lt, between-finite, between-at-most, at-most-high, at-most-finite, magnitude-above, positive-above}
 use Rattle.number_laws.proofs.Sums.{add-between}
 use Rattle.number_laws.proofs.Products.{div-at-most, div-not-negative}
 use Rattle.number_laws.proofs.Narrowing.{narrow-mono, narrow-fits}
+use Rattle.number_laws.proofs.Placed.{fits-under}
+use Rattle.number_laws.proofs.LogSeries.{quarter, fiveEighths, twice-at-most, twice-not-negative}
+use Rattle.number_laws.proofs.LogLaws.{log-not-negative, log-most}
 
 -- ---- a finite f32 is below 2^128
-magnitude-most : (s : Bool) (m : ℕ) (e : ℤ) → T (fits binary32 (fin s m e)) → m * up e ≤ 2 ^ 128 * down e
-unfolding fits
-magnitude-most s zero e F = rw (zero-mul (up e)) (nothing (2 ^ 128 * down e))
-  where
-    nothing : (n : ℕ) → 0 ≤ n
-    nothing n = omega arith
-magnitude-most s (suc m) e F = le-of-lt (ltb→lt (suc m * up e) (2 ^ 128 * down e) (and-r (eqb (suc m % 2) 1 && ltb (suc m) (2 ^ 24) && leb (down e) (2 ^ 149)) (ltb (suc m * up e) (2 ^ 128 * down e)) F))
-
 pub f32-most : (w : Float) → T (fits binary32 w) → T (finite w) → T (le w beyond₃₂)
 f32-most nan F W = absurd W
 f32-most (inf s) F W = absurd W
-f32-most (fin s m e) F W = below→le (fin s m e) beyond₃₂ tt tt (signed s (m * up e) (2 ^ 128) (down e) (magnitude-most s m e F))
+f32-most (fin s m e) F W = below→le (fin s m e) beyond₃₂ tt tt (signed s (m * up e) (2 ^ 128) (down e) (le-of-lt (fits-under binary32 s m e F)))
   where
     signed : (s : Bool) (a b d : ℕ) → a ≤ b * d → P s a * 1 + 0 * d ≤ 1 * b * d + N s a * 1
     signed true a b d h = rw (one-mul b, zero-mul d) (omega arith)

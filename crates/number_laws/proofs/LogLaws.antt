@@ -11,13 +11,13 @@ use Rattle.numbers.specs.Arithmetic.{_⊕_, _⊖_, _⊗_, _⊘_, zero⁺, one, 
 use Rattle.numbers.specs.Exponential.{hi, lo, ln10}
 use Rattle.numbers.specs.Logarithm.{smallestNormal, sqrt2, half, mantissa, exponent, logTwice, logAt, logHalved, logOf, log10Of}
 use Rattle.numbers.proofs.Value.{finite-no-nan}
-use Rattle.number_laws.specs.LogLaws.{logMost, logMost⁻, logMost₃₂, log10Most, LogFinite, LogNotNegative, LogMost, Log10Finite, Log10Infinite}
-use Rattle.number_laws.proofs.Mantissa.{mantissa-range, exponent-range, exponent-from-one, exponent-to-128}
-use Rattle.number_laws.proofs.LogSeries.{quarter, fiveEighths, twice-at-most, twice-not-negative}
 use Rattle.number_laws.specs.Values.{Normal, magnitude, AtMost, NotNegative, Between}
+use Rattle.number_laws.specs.LogLaws.{logMost, logMost⁻, logMost₃₂, log10Most, LogFinite, LogNotNegative, LogMost, Log10Finite, Log10Infinite}
 use Rattle.number_laws.proofs.Order.{le-transitive, lt→le, not-lt→le, wider, between-finite, at-most-between, between-at-most, at-most-finite, magnitude-above, positive-above}
 use Rattle.number_laws.proofs.Sums.{sub-mono, sub-not-negative, add-mono, add-between}
 use Rattle.number_laws.proofs.Products.{div-at-most, div-not-negative, mul-between-by}
+use Rattle.number_laws.proofs.Mantissa.{leastExponent, mostExponent, mantissa-range, exponent-range, exponent-from-one, exponent-to-128}
+use Rattle.number_laws.proofs.LogSeries.{quarter, fiveEighths, twice-at-most, twice-not-negative}
 
 -- ---- s = (m − 1) / (m + 1)
 abbrev ratio : Float → Float
@@ -85,11 +85,8 @@ total-between a b c d e t A B e-in t-in =
     (add-between binary64 (a ⊗ lo) (b ⊗ lo) c d (e ⊗ lo) t (A .3) (B .3) (A .1) (B .1) (mul-between-by binary64 a b e lo (A .0) (B .0) (unfold ofBits in tt) (unfold ofBits le in tt) e-in) t-in)
 
 -- |s| ≤ 1/4, and e from −1022 to 1024
-abbrev lowest : Float
-lowest = fin true 511 (pos 1)
-
-abbrev highest : Float
-highest = fin false 1 (pos 10)
+abbrev pastExponent : Float
+pastExponent = fin false 1 (pos 10)
 
 abbrev fiveEighths⁻ : Float
 fiveEighths⁻ = fin true 5 (negsuc 2)
@@ -98,43 +95,43 @@ twice-between : (m : Float) → AtMost quarter (ratio m) → Between fiveEighths
 unfolding neg
 twice-between m s = let S = at-most-finite quarter (ratio m) tt s in at-most-between fiveEighths (logTwice (ratio m)) (twice-at-most (ratio m) S s)
 
-tame-low : Tame lowest fiveEighths⁻
+tame-low : Tame leastExponent fiveEighths⁻
 unfolding ofBits mul add
 tame-low = (tt, tt, tt, tt, tt)
 
-tame-high : Tame highest fiveEighths
+tame-high : Tame pastExponent fiveEighths
 unfolding ofBits mul add
 tame-high = (tt, tt, tt, tt, tt)
 
-at-bounded : (m e : Float) → AtMost quarter (ratio m) → Between lowest highest e → Between logMost⁻ logMost (logAt m e)
-at-bounded m e s b = wider (total lowest fiveEighths⁻) (total highest fiveEighths) logMost⁻ logMost (logAt m e) low high
-    (total-between lowest highest fiveEighths⁻ fiveEighths e (logTwice (ratio m)) tame-low tame-high b (twice-between m s))
+at-bounded : (m e : Float) → AtMost quarter (ratio m) → Between leastExponent pastExponent e → Between logMost⁻ logMost (logAt m e)
+at-bounded m e s b = wider (total leastExponent fiveEighths⁻) (total pastExponent fiveEighths) logMost⁻ logMost (logAt m e) low high
+    (total-between leastExponent pastExponent fiveEighths⁻ fiveEighths e (logTwice (ratio m)) tame-low tame-high b (twice-between m s))
   where
-    low : T (le logMost⁻ (total lowest fiveEighths⁻))
+    low : T (le logMost⁻ (total leastExponent fiveEighths⁻))
     low = unfold ofBits mul add le in tt
 
-    high : T (le (total highest fiveEighths) logMost)
+    high : T (le (total pastExponent fiveEighths) logMost)
     high = unfold ofBits mul add le in tt
 
 -- e up to 129
-at-most-91 : (m e : Float) → AtMost quarter (ratio m) → Between lowest (fin false 129 (pos 0)) e → T (le (logAt m e) logMost₃₂)
+at-most-91 : (m e : Float) → AtMost quarter (ratio m) → Between leastExponent (fin false 129 (pos 0)) e → T (le (logAt m e) logMost₃₂)
 at-most-91 m e s b = le-transitive (logAt m e) (total (fin false 129 (pos 0)) fiveEighths) logMost₃₂
-    (total-between lowest (fin false 129 (pos 0)) fiveEighths⁻ fiveEighths e (logTwice (ratio m)) tame-low (unfold ofBits mul add in (tt, tt, tt, tt, tt)) b (twice-between m s) .to)
+    (total-between leastExponent (fin false 129 (pos 0)) fiveEighths⁻ fiveEighths e (logTwice (ratio m)) tame-low (unfold ofBits mul add in (tt, tt, tt, tt, tt)) b (twice-between m s) .to)
     (unfold ofBits mul add le in tt)
 
 -- e from 1 on: hi is above 5/8
-at-not-negative : (m e : Float) → AtMost quarter (ratio m) → Between one highest e → NotNegative (logAt m e)
+at-not-negative : (m e : Float) → AtMost quarter (ratio m) → Between one pastExponent e → NotNegative (logAt m e)
 at-not-negative m e s b = le-transitive zero⁺ (total one fiveEighths⁻) (logAt m e) (unfold ofBits mul add le in tt)
-    (total-between one highest fiveEighths⁻ fiveEighths e (logTwice (ratio m)) (unfold ofBits mul add in (tt, tt, tt, tt, tt)) tame-high b (twice-between m s) .from)
+    (total-between one pastExponent fiveEighths⁻ fiveEighths e (logTwice (ratio m)) (unfold ofBits mul add in (tt, tt, tt, tt, tt)) tame-high b (twice-between m s) .from)
 
 -- e from 0 on and m from 1 on: no part is negative
-parts-not-negative : (m e : Float) → Between one sqrt2 m → Between zero⁺ highest e → NotNegative (logAt m e)
+parts-not-negative : (m e : Float) → Between one sqrt2 m → Between zero⁺ pastExponent e → NotNegative (logAt m e)
 parts-not-negative m e m-in b =
     let s = plain-ratio m m-in in
     let S = at-most-finite quarter (ratio m) tt s in
     let n = twice-not-negative (ratio m) S s (plain-ratio-not-negative m m-in) in
     le-transitive zero⁺ (total zero⁺ zero⁺) (logAt m e) (unfold ofBits mul add le in tt)
-    (total-between zero⁺ highest zero⁺ fiveEighths e (logTwice (ratio m)) (unfold ofBits mul add in (tt, tt, tt, tt, tt)) tame-high b (record { from = n; to = twice-between m s .to }) .from)
+    (total-between zero⁺ pastExponent zero⁺ fiveEighths e (logTwice (ratio m)) (unfold ofBits mul add in (tt, tt, tt, tt, tt)) tame-high b (record { from = n; to = twice-between m s .to }) .from)
 
 -- ---- L of a positive normal v is one of two such sums
 log-is : (v : Float) → Normal v → logOf v ≡ logHalved (mantissa v) (exponent v)
@@ -155,48 +152,45 @@ by-cases R v n h k = rw (log-is v n) (go (lt sqrt2 (mantissa v)) h k)
 
 module _ (v : Float) (n : Normal v) where
   mantissa-finite : T (finite (mantissa v))
-  mantissa-finite = between-finite one two (mantissa v) tt tt (record { from = mantissa-range v n .0; to = mantissa-range v n .1 })
+  mantissa-finite = between-finite one two (mantissa v) tt tt (mantissa-range v n)
 
   halved-mantissa : T (lt sqrt2 (mantissa v)) → AtMost quarter (ratio (mantissa v ⊗ half))
-  halved-mantissa h = halved-ratio (mantissa v ⊗ half) (to-one (mul-between-by binary64 sqrt2 two (mantissa v) half (unfold ofBits in tt) tt (unfold ofBits in tt) (unfold ofBits le in tt) (record { from = lt→le sqrt2 (mantissa v) h; to = mantissa-range v n .1 })))
+  halved-mantissa h = halved-ratio (mantissa v ⊗ half) (to-one (mul-between-by binary64 sqrt2 two (mantissa v) half (unfold ofBits in tt) tt (unfold ofBits in tt) (unfold ofBits le in tt) (record { from = lt→le sqrt2 (mantissa v) h; to = mantissa-range v n .to })))
     where
       to-one : Between (sqrt2 ⊗ half) (two ⊗ half) (mantissa v ⊗ half) → Between (sqrt2 ⊗ half) one (mantissa v ⊗ half)
       to-one b = wider (sqrt2 ⊗ half) (two ⊗ half) (sqrt2 ⊗ half) one (mantissa v ⊗ half) (unfold ofBits mul le in tt) (unfold ofBits mul le in tt) b
 
   plain-mantissa : T (not (lt sqrt2 (mantissa v))) → Between one sqrt2 (mantissa v)
-  plain-mantissa h = record { from = mantissa-range v n .0; to = not-lt→le sqrt2 (mantissa v) (unfold ofBits isNan in tt) (finite-no-nan (mantissa v) mantissa-finite) h }
+  plain-mantissa h = record { from = mantissa-range v n .from; to = not-lt→le sqrt2 (mantissa v) (unfold ofBits isNan in tt) (finite-no-nan (mantissa v) mantissa-finite) h }
 
   -- e + 1, and e itself
-  exponent-between : Between lowest (fin false 1023 (pos 0)) (exponent v)
-  exponent-between = record { from = exponent-range v n .0; to = exponent-range v n .1 }
-
   next : (a b : Float) → T (finite a) → T (finite b) → Between a b (exponent v) → Between (a ⊕ one) (b ⊕ one) (exponent v ⊕ one)
   next a b A B e-in = add-between binary64 a b one one (exponent v) one A B tt tt e-in (record { from = unfold le in tt; to = unfold le in tt })
 
   log-between : Between logMost⁻ logMost (logOf v)
   log-between = by-cases (Between logMost⁻ logMost) v n
       (λ h. at-bounded (mantissa v ⊗ half) (exponent v ⊕ one) (halved-mantissa h)
-      (wider (lowest ⊕ one) (fin false 1023 (pos 0) ⊕ one) lowest highest (exponent v ⊕ one) (unfold add le in tt) (unfold add le in tt) (next lowest (fin false 1023 (pos 0)) tt tt exponent-between)))
-      (λ h. at-bounded (mantissa v) (exponent v) (plain-ratio (mantissa v) (plain-mantissa h)) (wider lowest (fin false 1023 (pos 0)) lowest highest (exponent v) (unfold le in tt) (unfold le in tt) exponent-between))
+      (wider (leastExponent ⊕ one) (mostExponent ⊕ one) leastExponent pastExponent (exponent v ⊕ one) (unfold add le in tt) (unfold add le in tt) (next leastExponent mostExponent tt tt (exponent-range v n))))
+      (λ h. at-bounded (mantissa v) (exponent v) (plain-ratio (mantissa v) (plain-mantissa h)) (wider leastExponent mostExponent leastExponent pastExponent (exponent v) (unfold le in tt) (unfold le in tt) (exponent-range v n)))
 
 pub log-finite : LogFinite
 log-finite v n = let b = log-between v n in record { finite-is = between-finite logMost⁻ logMost (logOf v) tt tt b; between = b }
 
 pub log-not-negative : LogNotNegative
 log-not-negative v n h =
-    let e-in : Between zero⁺ (fin false 1023 (pos 0)) (exponent v) = record { from = exponent-from-one v n h; to = exponent-range v n .1 } in
+    let e-in : Between zero⁺ mostExponent (exponent v) = record { from = exponent-from-one v n h; to = exponent-range v n .to } in
     by-cases NotNegative v n
     (λ l. at-not-negative (mantissa v ⊗ half) (exponent v ⊕ one) (halved-mantissa v n l)
-    (wider (zero⁺ ⊕ one) (fin false 1023 (pos 0) ⊕ one) one highest (exponent v ⊕ one) (unfold add le in tt) (unfold add le in tt) (next v n zero⁺ (fin false 1023 (pos 0)) tt tt e-in)))
-    (λ l. parts-not-negative (mantissa v) (exponent v) (plain-mantissa v n l) (wider zero⁺ (fin false 1023 (pos 0)) zero⁺ highest (exponent v) (unfold le in tt) (unfold le in tt) e-in))
+    (wider (zero⁺ ⊕ one) (mostExponent ⊕ one) one pastExponent (exponent v ⊕ one) (unfold add le in tt) (unfold add le in tt) (next v n zero⁺ mostExponent tt tt e-in)))
+    (λ l. parts-not-negative (mantissa v) (exponent v) (plain-mantissa v n l) (wider zero⁺ mostExponent zero⁺ pastExponent (exponent v) (unfold le in tt) (unfold le in tt) e-in))
 
 pub log-most : LogMost
 log-most v n h =
-    let e-in : Between lowest (fin false 1 (pos 7)) (exponent v) = record { from = exponent-range v n .0; to = exponent-to-128 v n h } in
+    let e-in : Between leastExponent (fin false 1 (pos 7)) (exponent v) = record { from = exponent-range v n .from; to = exponent-to-128 v n h } in
     by-cases (λ (x : Float). T (le x logMost₃₂)) v n
     (λ l. at-most-91 (mantissa v ⊗ half) (exponent v ⊕ one) (halved-mantissa v n l)
-    (wider (lowest ⊕ one) (fin false 1 (pos 7) ⊕ one) lowest (fin false 129 (pos 0)) (exponent v ⊕ one) (unfold add le in tt) (unfold add le in tt) (next v n lowest (fin false 1 (pos 7)) tt tt e-in)))
-    (λ l. at-most-91 (mantissa v) (exponent v) (plain-ratio (mantissa v) (plain-mantissa v n l)) (wider lowest (fin false 1 (pos 7)) lowest (fin false 129 (pos 0)) (exponent v) (unfold le in tt) (unfold le in tt) e-in))
+    (wider (leastExponent ⊕ one) (fin false 1 (pos 7) ⊕ one) leastExponent (fin false 129 (pos 0)) (exponent v ⊕ one) (unfold add le in tt) (unfold add le in tt) (next v n leastExponent (fin false 1 (pos 7)) tt tt e-in)))
+    (λ l. at-most-91 (mantissa v) (exponent v) (plain-ratio (mantissa v) (plain-mantissa v n l)) (wider leastExponent (fin false 1 (pos 7)) leastExponent (fin false 129 (pos 0)) (exponent v) (unfold le in tt) (unfold le in tt) e-in))
 
 -- ---- log10, by ln 10 ≥ 2357 / 1024
 pub log10-finite : Log10Finite

@@ -10,11 +10,11 @@ use lib.Ieee.Scale.{finite}
 use Rattle.numbers.specs.Arithmetic.{_⊕_, _⊗_, _⊘_, zero⁺, one, two}
 use Rattle.numbers.specs.Logarithm.{logSeries, logTwice}
 use Rattle.numbers.proofs.Value.{finite-no-nan}
-use Rattle.number_laws.proofs.Mantissa.{whole-finite, whole-mono}
 use Rattle.number_laws.specs.Values.{magnitude, AtMost, NotNegative, Between}
 use Rattle.number_laws.proofs.Order.{le-transitive, wider, between-finite, between-at-most, at-most-high, at-most-finite, magnitude-above, positive-above}
 use Rattle.number_laws.proofs.Sums.{add-between}
 use Rattle.number_laws.proofs.Products.{mul-at-most, div-at-most, div-not-negative, mul-not-negative, square-not-negative, mul-between}
+use Rattle.number_laws.proofs.Mantissa.{whole-finite, whole-mono}
 
 -- ---- the bounds
 abbrev pub quarter : Float

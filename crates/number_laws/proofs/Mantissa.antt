@@ -2,7 +2,7 @@
 use mathlib.Core.Path.{_≡_, refl, sym, ap, _∙_, subst}
 use mathlib.Core.Bool.{Bool, true, false, not, cond, true≢false}
 use Prim.Native.Nat.{ℕ, zero, suc, _+_, _-_, _*_, _/_, _%_, _^_, _≤_, _<_}
-use native.Mathlib.Nat.{le-trans, le-of-eq, le-of-lt, lt-of-le-of-lt, lt-of-lt-of-le, lt-of-not-le, not-le-of-lt, lt-irrefl, mul-one, one-mul, mul-comm, mul-assoc, mul-right-comm, mul-left-comm, pow-succ', eq-of-mul-eq-mul-right, add-mul, mul-lt-mul-of-pos-right, mul-le-mul-right}
+use native.Mathlib.Nat.{le-trans, le-of-eq, le-of-lt, lt-of-le-of-lt, lt-of-lt-of-le, lt-of-not-le, not-le-of-lt, lt-irrefl, mul-one, one-mul, mul-comm, mul-assoc, mul-left-comm, pow-succ', add-mul, mul-lt-mul-of-pos-right, mul-le-mul-right}
 use native.Mathlib.Omega.{arith}
 use lib.IntN.{pos, negsuc}
 use lib.Dec.{T, leb, ltb, leb→le, nleb→lt, ltb→lt, nltb→le, not-T, lit<}
@@ -19,11 +19,12 @@ use lib.Ieee.Scale.{finite, round-same}
 use Rattle.numbers.specs.Arithmetic.{_⊖_, zero⁺, one, two}
 use Rattle.numbers.specs.Exponential.{bias}
 use Rattle.numbers.specs.Logarithm.{smallestNormal, mantissa, exponent}
-use Rattle.numbers.proofs.Value.{field-under, value-low, value-high, by-fields, at-some}
+use Rattle.numbers.proofs.Value.{field-under, value-low, value-high, by-fields, at-some, value-finite, same-fraction}
+use Rattle.number_laws.specs.Values.{Normal, Between}
 use Rattle.number_laws.specs.LogLaws.{beyond₃₂, Splits}
-use Rattle.number_laws.specs.Values.{Normal}
-use Rattle.number_laws.proofs.Order.{positive-above}
+use Rattle.number_laws.proofs.Order.{positive-above, positive-sign}
 use Rattle.number_laws.proofs.Sums.{sub-mono}
+use Rattle.number_laws.proofs.TwoTo.{bias-is}
 
 -- ---- v by its fields: 4503599627370496 is 2^52, 9223372036854775808 is 2^63 and 4607182418800017408 is 1023 × 2^52
 smallest-is : smallestNormal ≡ fin false 1 (negsuc 1021)
@@ -41,12 +42,6 @@ pub record Fields (v : Float) : Type 0 where
   pub digits-are : digits ≡ 4503599627370496 + toBits binary64 v % 4503599627370496
   pub field-is : toBits binary64 v / 4503599627370496 ≡ suc place
   pub value : HasValue v false (digits * 2 ^ place) (2 ^ 1074)
-
-same-sign : (v : Float) (s : Bool) (a c : ℕ) → T (positive v) → HasValue v s a c → s ≡ false
-same-sign nan s a c p h = absurd p
-same-sign (inf t) s a c p h = absurd p
-same-sign (fin true m e) s a c p h = absurd p
-same-sign (fin false m e) s a c p h = sym (h .0)
 
 some : (k : ℕ) → (k ≡ 0 → ⊥) → k ≡ suc (k - 1)
 some zero h = absurd (h refl)
@@ -77,7 +72,7 @@ module _ (v : Float) (n : Normal v) where
   not-low : raw ≡ 0 → ⊥
   not-low e =
       let l = value-low v (n .held) (n .finite-is) e in
-      let s = same-sign v _ _ _ (normal-positive v n) l in
+      let s = positive-sign v _ _ _ (normal-positive v n) l in
       let w : HasValue v false (B % 4503599627370496 * 2 ^ 0) (2 ^ 1074) = subst (λ (t : Bool). HasValue v t (B % 4503599627370496 * 2 ^ 0) (2 ^ 1074)) s l in
       let k = values-of-le (fin false 1 (negsuc 1021)) v 1 (2 ^ 1022) (B % 4503599627370496 * 2 ^ 0) (2 ^ 1074) tt (normal-positive v n) (refl, refl) w (rw smallest-is at (n .least)) in
       too-small (B % 4503599627370496) (low-part B) k
@@ -86,7 +81,7 @@ module _ (v : Float) (n : Normal v) where
   fields-of =
       let is : raw ≡ suc (raw - 1) = some raw not-low in
       let h = value-high v (n .held) (n .finite-is) (raw - 1) is in
-      let s = same-sign v _ _ _ (normal-positive v n) h in
+      let s = positive-sign v _ _ _ (normal-positive v n) h in
       record {
         place = raw - 1;
         place-most = less raw (field-under v (n .held) (n .finite-is));
@@ -97,16 +92,6 @@ module _ (v : Float) (n : Normal v) where
       }
 
 -- ---- m, by the same digits
--- a value's other fractions
-pub same-fraction : (x : Float) (s : Bool) (a c b d : ℕ) → 0 < c → b * c ≡ a * d → HasValue x s a c → HasValue x s b d
-same-fraction nan s a c b d C h v = v
-same-fraction (inf t) s a c b d C h v = v
-same-fraction (fin t m e) s a c b d C h v = (
-  v .0,
-  eq-of-mul-eq-mul-right c C (m * up e * d) (b * down e)
-      (mul-right-comm (m * up e) d c ∙ ap (λ (x : ℕ). x * d) (v .1) ∙ mul-right-comm a (down e) d ∙ ap (λ (x : ℕ). x * down e) (sym h) ∙ mul-right-comm b c (down e)),
-)
-
 from-one-on : (t : ℕ) → t < 2 ^ 52 → ofBits binary64 (t + 4607182418800017408) ≡ ofFields binary64 false 1023 t
 from-one-on t h =
     by-fields (t + 4607182418800017408)
@@ -163,10 +148,6 @@ whole-less f (fin false m e) k j v =
     go false true p q r s = round-same f false (k * down e - j * down e) (down e * 1) (k - j) 1 (scale-pos (down e) (down-pos e)) (omega arith) (scaled k j (down e) (r tt))
     go false false p q r s = absurd (lt-irrefl _ (lt-of-lt-of-le (mul-lt-mul-of-pos-right (s tt) (down-pos e)) (q tt)))
 
-bias-is : bias ≡ fin false 1023 (pos 0)
-unfolding ofBits
-bias-is = refl
-
 exponent-whole : (k : ℕ) → k ≤ 2 ^ 53 → ofInt binary64 (pos k) ⊖ bias ≡ ofInt binary64 (minus k 1023)
 exponent-whole k h = rw bias-is (whole-less binary64 (ofInt binary64 (pos k)) k 1023 (unfold ofInt in round-whole binary64 false k h))
 
@@ -208,24 +189,20 @@ splits v n =
     }
 
 -- ---- m lies from 1 to 2
-pub mantissa-range : (v : Float) → Normal v → T (le one (mantissa v)) × T (le (mantissa v) two)
+pub mantissa-range : (v : Float) → Normal v → Between one two (mantissa v)
 mantissa-range v n =
     let s = splits v n in
     let l = s .from-one in
-    let h = s .below-two in (
-      le-of-values one (mantissa v) 1 1 (s .digits) (2 ^ 52) (pow-pos 0) (pow-pos 52) (refl, refl) (s .mantissa-is) (omega arith),
-      le-of-values (mantissa v) two (s .digits) (2 ^ 52) 2 1 (pow-pos 52) (pow-pos 0) (s .mantissa-is) (refl, refl) (omega arith),
-    )
+    let h = s .below-two in
+    record {
+      from = le-of-values one (mantissa v) 1 1 (s .digits) (2 ^ 52) (pow-pos 0) (pow-pos 52) (refl, refl) (s .mantissa-is) (omega arith);
+      to = le-of-values (mantissa v) two (s .digits) (2 ^ 52) 2 1 (pow-pos 52) (pow-pos 0) (s .mantissa-is) (refl, refl) (omega arith);
+    }
 
 -- ---- e lies where v's bounds put it
 pub whole-finite : (k : ℕ) → k ≤ 2 ^ 53 → T (finite (ofInt binary64 (pos k)))
 unfolding ofInt
-whole-finite k h = go (round binary64 false k 1) (round-whole binary64 false k h)
-  where
-    go : (x : Float) → HasValue x false k 1 → T (finite x)
-    go nan v = v
-    go (inf s) v = v
-    go (fin s m e) v = tt
+whole-finite k h = value-finite (round binary64 false k 1) false k 1 (round-whole binary64 false k h)
 
 pub whole-mono : (j k : ℕ) → j ≤ k → T (le (ofInt binary64 (pos j)) (ofInt binary64 (pos k)))
 unfolding ofInt
@@ -233,6 +210,13 @@ whole-mono j k h = round-mono binary64 j 1 k 1 (pow-pos 0) (pow-pos 0) (omega ar
 
 less-mono : (j k : ℕ) → j ≤ k → k ≤ 2 ^ 53 → T (le (ofInt binary64 (pos j) ⊖ bias) (ofInt binary64 (pos k) ⊖ bias))
 less-mono j k h b = sub-mono binary64 (ofInt binary64 (pos j)) (ofInt binary64 (pos k)) bias (whole-finite j (le-trans h b)) (whole-finite k b) (unfold ofBits in tt) (whole-mono j k h)
+
+-- -1022 and 1023
+abbrev pub leastExponent : Float
+leastExponent = fin true 511 (pos 1)
+
+abbrev pub mostExponent : Float
+mostExponent = fin false 1023 (pos 0)
 
 place-from-one : (d k : ℕ) → d < 2 ^ 53 → 1 * 2 ^ 1074 ≤ d * 2 ^ k * 1 → 1023 ≤ suc k
 place-from-one d k D h = let l : 1021 < k = lt-of-not-le far in omega arith
@@ -263,9 +247,9 @@ module _ (v : Float) (n : Normal v) where
   exponent-most : (j : ℕ) → suc place ≤ j → j ≤ 2 ^ 53 → T (le (exponent v) (ofInt binary64 (pos j) ⊖ bias))
   exponent-most j h b = rw (fields-of v n .field-is) (less-mono (suc place) j h b)
 
-  pub exponent-range : T (le (fin true 511 (pos 1)) (exponent v)) × T (le (exponent v) (fin false 1023 (pos 0)))
+  pub exponent-range : Between leastExponent mostExponent (exponent v)
   unfolding ofInt sub ofBits
-  exponent-range = (exponent-least 1 (omega arith), exponent-most 2046 (let l = fields-of v n .place-most in omega arith) (omega arith))
+  exponent-range = record { from = exponent-least 1 (omega arith); to = exponent-most 2046 (let l = fields-of v n .place-most in omega arith) (omega arith) }
 
   -- v ≥ 1 makes e ≥ 0
   pub exponent-from-one : T (le one v) → T (le zero⁺ (exponent v))

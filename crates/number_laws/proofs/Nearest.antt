@@ -13,12 +13,13 @@ use lib.Ieee.Exact.{units-val}
 use lib.Ieee.Fits.{down-pos, two, two-le-pos, reach, round-is, round-fits}
 use lib.Ieee.Nearest.{closest}
 use lib.Ieee.Scale.{finite}
-use Rattle.numbers.proofs.Encode.{spaced, bits-placed, twice-hid, Spread, K-le, K-ge, units-over}
 use Rattle.numbers.specs.Narrow.{nearestF32}
+use Rattle.numbers.proofs.Encode.{spaced, bits-placed, twice-hid, Spread, K-le, K-ge, units-over}
+use Rattle.numbers.proofs.Value.{value-finite}
 use Rattle.number_laws.specs.Values.{Units}
 use Rattle.number_laws.specs.Nearest.{NearestTo, RoundNearest, twiceEdge, FiniteBelow, RoundOverflow, NarrowNearest, NarrowOverflow}
+use Rattle.number_laws.proofs.Placed.{reach-is, placed-units}
 use Rattle.number_laws.proofs.Multiples.{Halves, closest-halves, Nearer, multiple-nearer, lower-nearer, few-kept, all-kept, near-signed, tie-signed}
-use Rattle.number_laws.proofs.Placed.{reach-is, units-finite, placed-units}
 
 -- ---- small things
 -- the bits of a number whose last digits are k's
@@ -207,7 +208,7 @@ module _ (f : Format) (a c : ℕ) (C : 0 < c) where
 
   finite-below : (s : Bool) → FiniteBelow f s a c (round f s a c)
   finite-below s = record {
-    under = λ h. subst (λ (v : Float). T (finite v)) (sym (round-units s)) (units-finite f (units f s K D) s R (units-val f s K D (kept-under h)));
+    under = λ h. subst (λ (v : Float). T (finite v)) (sym (round-units s)) (value-finite (units f s K D) s R (2 ^ low f) (units-val f s K D (kept-under h)));
     over = λ h. round-units s ∙ units-over f s K D (kept-over h);
   }
 

@@ -9,6 +9,7 @@ use lib.IntN.{ℤ}
 use lib.Dec.{T, lit<, ltb, eqb, ltb→lt, lt→ltb, nltb→le, eqb→eq, T-not, not-T}
 use lib.Ieee.{Float, nan, inf, fin, up, down, neg, lt, eq, le, below, level, isNan}
 use lib.Ieee.Fits.{down-pos, eq→eqb, and-i, and-l, and-r}
+use lib.Ieee.Exact.{HasValue}
 use lib.Ieee.Positive.{positive, above, above-of-le}
 use lib.Ieee.Scale.{finite}
 use Rattle.numbers.specs.Arithmetic.{zero⁺}
@@ -398,3 +399,9 @@ positive-not-negative nan Y = absurd Y
 positive-not-negative (inf s) Y = absurd Y
 positive-not-negative (fin true m e) Y = absurd Y
 positive-not-negative (fin false m e) Y = below→le zero⁺ (fin false m e) tt tt (omega arith)
+
+pub positive-sign : (x : Float) (s : Bool) (a c : ℕ) → T (positive x) → HasValue x s a c → s ≡ false
+positive-sign nan s a c p v = absurd p
+positive-sign (inf t) s a c p v = absurd p
+positive-sign (fin true m e) s a c p v = absurd p
+positive-sign (fin false m e) s a c p v = sym (v .0)

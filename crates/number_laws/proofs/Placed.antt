@@ -1,7 +1,7 @@
 -- A finite value of a format in units of its smallest value: digits * 2 ^ shift, with no more digits than the format keeps. Assumes nothing.
 use mathlib.Core.Path.{_≡_, refl, sym, ap, _∙_, subst}
 use Prim.Native.Nat.{ℕ, zero, suc, _+_, _-_, _*_, _%_, _^_, _≤_, _<_}
-use native.Mathlib.Nat.{le-of-eq, le-of-suc-le-suc, lt-of-lt-of-le, lt-of-not-le, not-le-of-lt, mul-one, one-mul, mul-comm, mul-assoc, mul-right-comm, mul-lt-mul-of-pos-right, lt-of-mul-lt-mul-right, eq-of-mul-eq-mul-right, zero-mul}
+use native.Mathlib.Nat.{le-of-eq, le-of-suc-le-suc, lt-of-lt-of-le, lt-of-not-le, not-le-of-lt, mul-one, one-mul, mul-comm, mul-assoc, mul-right-comm, mul-lt-mul-of-pos-right, lt-of-mul-lt-mul-right, eq-of-mul-eq-mul-right, zero-mul, mul-pos}
 use native.Mathlib.Omega.{arith}
 use mathlib.Core.Bool.{Bool, true, false, not, _&&_}
 use lib.Dec.{T, ltb, leb, eqb, ltb→lt, leb→le, nltb→le}
@@ -11,6 +11,7 @@ use lib.Ieee.{Float, nan, inf, fin, Format, prec, emax, low, up, down, fits}
 use lib.Ieee.Fits.{two, down-pos, and-l, and-r}
 use lib.Ieee.Scale.{finite}
 use Rattle.numbers.proofs.Encode.{emax-pos}
+use Rattle.numbers.proofs.Value.{value-finite}
 use Rattle.number_laws.specs.Values.{Units}
 
 -- x is ±digits * 2 ^ shift units
@@ -68,28 +69,38 @@ module _ (f : Format) (s : Bool) (x : Float) (m j : ℕ) (M : m < 2 ^ prec f) (U
         value = subst (λ (y : ℕ). Units f x s y) (split (g tt)) own;
       }
 
--- every finite value of the format is so
+-- ---- what fitting says of the digits and of the size
+pub fits-few : (f : Format) (s : Bool) (m : ℕ) (e : ℤ) → T (fits f (fin s m e)) → m < 2 ^ prec f
+unfolding fits
+fits-few f s zero e F = pow-pos (prec f)
+fits-few f s (suc m) e F =
+    let a = eqb (suc m % 2) 1 in
+    let b = ltb (suc m) (2 ^ prec f) in
+    let c = leb (down e) (2 ^ low f) in
+    ltb→lt (suc m) (2 ^ prec f) (and-r a b (and-l (a && b) c (and-l (a && b && c) _ F)))
+
+pub fits-under : (f : Format) (s : Bool) (m : ℕ) (e : ℤ) → T (fits f (fin s m e)) → m * up e < 2 ^ suc (emax f) * down e
+unfolding fits
+fits-under f s zero e F = rw (zero-mul (up e)) (mul-pos (pow-pos (suc (emax f))) (down-pos e))
+fits-under f s (suc m) e F = ltb→lt (suc m * up e) (2 ^ suc (emax f) * down e) (and-r (eqb (suc m % 2) 1 && ltb (suc m) (2 ^ prec f) && leb (down e) (2 ^ low f)) _ F)
+
+fits-down : (f : Format) (s : Bool) (m : ℕ) (e : ℤ) → T (fits f (fin s (suc m) e)) → down e ≤ 2 ^ low f
+unfolding fits
+fits-down f s m e F =
+    let a = eqb (suc m % 2) 1 && ltb (suc m) (2 ^ prec f) in
+    let b = leb (down e) (2 ^ low f) in
+    leb→le (down e) (2 ^ low f) (and-r a b (and-l (a && b) _ F))
+
+-- ---- every finite value of the format is so
 pub placed : (f : Format) (x : Float) → T (fits f x) → T (finite x) → Placed f x
 unfolding fits
 placed f nan F h = absurd h
 placed f (inf s) F h = absurd h
 placed f (fin s zero e) F h = record { sign = s; digits = 0; shift = 0; few = pow-pos (prec f); reach = emax-pos f; value = (refl, ap (λ (y : ℕ). y * 2 ^ low f) (zero-mul (up e)) ∙ zero-mul (2 ^ low f) ∙ sym (zero-mul (down e))) }
-placed f (fin s (suc m) e) F h = placed-under f s (fin s (suc m) e) (suc m) (j .0) (ltb→lt (suc m) (2 ^ prec f) (and-r a b (and-l (a && b) c (and-l (a && b && c) d F)))) under value
+placed f (fin s (suc m) e) F h = placed-under f s (fin s (suc m) e) (suc m) (j .0) (fits-few f s (suc m) e F) under value
   where
-    a : Bool
-    a = eqb (suc m % 2) 1
-
-    b : Bool
-    b = ltb (suc m) (2 ^ prec f)
-
-    c : Bool
-    c = leb (down e) (2 ^ low f)
-
-    d : Bool
-    d = ltb (suc m * up e) (2 ^ suc (emax f) * down e)
-
     j : (j : ℕ) × (up e * 2 ^ low f ≡ 2 ^ j * down e)
-    j = shifted e (low f) (leb→le (down e) (2 ^ low f) (and-r (a && b) c (and-l (a && b && c) d F)))
+    j = shifted e (low f) (fits-down f s m e F)
 
     is : suc m * up e * 2 ^ low f ≡ suc m * 2 ^ j .0 * down e
     is = mul-assoc (suc m) (up e) (2 ^ low f) ∙ ap (λ (y : ℕ). suc m * y) (j .1) ∙ sym (mul-assoc (suc m) (2 ^ j .0) (down e))
@@ -101,15 +112,10 @@ placed f (fin s (suc m) e) F h = placed-under f s (fin s (suc m) e) (suc m) (j .
     under =
         lt-of-mul-lt-mul-right (down e)
         (subst (λ (y : ℕ). y < 2 ^ (low f + suc (emax f)) * down e) is
-        (lt-of-lt-of-le (mul-lt-mul-of-pos-right (ltb→lt (suc m * up e) (2 ^ suc (emax f) * down e) (and-r (a && b && c) d F)) (pow-pos (low f)))
+        (lt-of-lt-of-le (mul-lt-mul-of-pos-right (fits-under f s (suc m) e F) (pow-pos (low f)))
         (le-of-eq (mul-right-comm (2 ^ suc (emax f)) (down e) (2 ^ low f) ∙ ap (λ (y : ℕ). y * down e) (mul-comm (2 ^ suc (emax f)) (2 ^ low f) ∙ sym (pow-add 2 (low f) (suc (emax f))))))))
 
 -- ---- the units of a value are one number
-pub units-finite : (f : Format) (x : Float) (s : Bool) (n : ℕ) → Units f x s n → T (finite x)
-units-finite f nan s n h = absurd h
-units-finite f (inf t) s n h = absurd h
-units-finite f (fin t m e) s n h = tt
-
 pub units-one : (f : Format) (x : Float) (s t : Bool) (a b : ℕ) → Units f x s a → Units f x t b → (s ≡ t) × (a ≡ b)
 units-one f nan s t a b h k = absurd h
 units-one f (inf u) s t a b h k = absurd h
@@ -117,4 +123,4 @@ units-one f (fin u m e) s t a b h k = (sym (h .0) ∙ k .0, eq-of-mul-eq-mul-rig
 
 -- n units are a number of no more digits than the format keeps, times a power of two
 pub placed-units : (f : Format) (y : Float) (t : Bool) (n : ℕ) → T (fits f y) → Units f y t n → (q : ℕ) × (j : ℕ) × (q < 2 ^ prec f) × (n ≡ q * 2 ^ j)
-placed-units f y t n F U = let p = placed f y F (units-finite f y t n U) in (p .digits, p .shift, p .few, units-one f y t (p .sign) n (p .digits * 2 ^ p .shift) U (p .value) .1)
+placed-units f y t n F U = let p = placed f y F (value-finite y t n (2 ^ low f) U) in (p .digits, p .shift, p .few, units-one f y t (p .sign) n (p .digits * 2 ^ p .shift) U (p .value) .1)

@@ -14,29 +14,23 @@ use lib.Ieee.Order.{le-of-values}
 use lib.Ieee.Positive.{positive, above, positive-finite, first-pos, value-pos, values-of-le, above-of-le}
 use lib.Ieee.Scale.{finite}
 use Rattle.numbers.specs.Arithmetic.{zero⁺}
-use Rattle.numbers.specs.Logarithm.{smallestNormal}
 use Rattle.numbers.specs.Root.{rootFrom, nearRoot, rootUnits, rootOf}
+use Rattle.numbers.specs.Logarithm.{smallestNormal}
+use Rattle.numbers.proofs.Value.{finite-no-nan, value-finite}
 use Rattle.numbers.proofs.root.Rooted.{root-value, root-fits, root-closest, root-positive, A}
-use Rattle.numbers.proofs.Value.{finite-no-nan}
 use Rattle.number_laws.specs.Values.{Units}
 use Rattle.number_laws.specs.RootLaws.{NearestRoot, RootNearest, RootMonotone, smallestNormalRoot, RootNormal}
-use Rattle.number_laws.proofs.Placed.{placed, placed-units, units-finite}
-use Rattle.number_laws.proofs.Order.{P, N, fromS, toS, le-transitive, most-of-all, positive-above, positive-not-negative}
+use Rattle.number_laws.proofs.Order.{P, N, fromS, toS, le-transitive, most-of-all, positive-above, positive-not-negative, positive-sign}
+use Rattle.number_laws.proofs.Placed.{placed, placed-units}
 
 -- ---- the nearest
-positive-sign : (x : Float) (s : Bool) (n : ℕ) → T (positive x) → Units binary64 x s n → s ≡ false
-positive-sign nan s n p u = absurd p
-positive-sign (inf t) s n p u = absurd p
-positive-sign (fin true m e) s n p u = absurd p
-positive-sign (fin false m e) s n p u = sym (u .0)
-
 positive-nearest : (x : Float) → T (fits binary64 x) → T (positive x) → NearestRoot x (rootOf x)
 positive-nearest x F pos-x =
     let p = placed binary64 x F (positive-finite x pos-x) in
     let d = p .digits in
     let k = p .shift in
     let E : k ≤ 2045 = le-of-suc-le-suc (p .reach) in
-    let u : Units binary64 x false (d * 2 ^ k) = subst (λ (b : Bool). Units binary64 x b (d * 2 ^ k)) (positive-sign x (p .sign) (d * 2 ^ k) pos-x (p .value)) (p .value) in
+    let u : Units binary64 x false (d * 2 ^ k) = subst (λ (b : Bool). Units binary64 x b (d * 2 ^ k)) (positive-sign x (p .sign) (d * 2 ^ k) (2 ^ 1074) pos-x (p .value)) (p .value) in
     let some : 0 < d * 2 ^ k = value-pos x (d * 2 ^ k) (2 ^ 1074) pos-x (pow-pos 1074) u in
     let D : 0 < d = first-pos d (2 ^ k) some in
     let r = A d k D (p .few) E in
@@ -133,7 +127,7 @@ positive-mono x y F G p h k = elim (kind y h) [
   | inr (inl q) ↦ nearest-mono x y (rootOf x) (rootOf y) p q (positive-nearest x F p) (positive-nearest y G q) k
   | inr (inr e) ↦
       let n = positive-nearest x F p in
-      subst (λ (v : Float). T (le (rootOf x) v)) (sym (ap rootOf e ∙ root-of-infinity)) (most-of-all (rootOf x) (finite-no-nan (rootOf x) (units-finite binary64 (rootOf x) false (n .root) (n .value))))
+      subst (λ (v : Float). T (le (rootOf x) v)) (sym (ap rootOf e ∙ root-of-infinity)) (most-of-all (rootOf x) (finite-no-nan (rootOf x) (value-finite (rootOf x) false (n .root) (2 ^ 1074) (n .value))))
 ]
 
 pub root-monotone : RootMonotone
@@ -162,7 +156,7 @@ root-normal x v =
     record {
       normal = record {
         held = n .held;
-        finite-is = units-finite binary64 (rootOf x) false (n .root) (n .value);
+        finite-is = value-finite (rootOf x) false (n .root) (2 ^ 1074) (n .value);
         least = le-transitive smallestNormal smallestNormalRoot (rootOf x) (unfold le lt eq ofBits ofFields odd trailingZeros in tt) l;
       };
       large = l;

@@ -5,7 +5,7 @@ use native.Mathlib.Nat.{lt-irrefl, le-trans, mul-pos}
 use native.Mathlib.Omega.{arith}
 use mathlib.Core.Bool.{Bool, true, false, cond}
 use lib.IntN.{ℤ, pos, negsuc, negℤ}
-use lib.Dec.{T, leb, eqb, leb→le, le→leb, not-T, eqb→eq, lit≤}
+use lib.Dec.{T, leb, eqb, leb→le, le→leb, not-T, eqb→eq, lit<, lit≤}
 use lib.Count.{trailingZeros}
 use lib.Ieee.{Float, nan, inf, fin, Format, binary64, up, down, minus, odd, round, size, units, span, climb, le, ofInt, inFloat, ofFields, ofBits}
 use lib.Ieee.Fits.{down-pos}
@@ -21,11 +21,8 @@ use Rattle.number_laws.proofs.Order.{P, N}
 use Rattle.number_laws.proofs.Rounding.{Is, Sums}
 use Rattle.number_laws.proofs.Sums.{add-sums}
 
-one-pos : 0 < 1
-one-pos = omega arith
-
 -- ---- the constants
-bias-is : bias ≡ fin false 1023 (pos 0)
+pub bias-is : bias ≡ fin false 1023 (pos 0)
 unfolding ofBits ofFields odd trailingZeros
 bias-is = refl
 
@@ -52,7 +49,7 @@ field-of nan s n j v J h = absurd v
 field-of (inf t) s n j v J h = absurd v
 field-of (fin t m e) s n j v J h =
     positive-sum binary64 _ _ (down e * 1) (j * down e) _ (add-sums binary64 (fin t m e) (fin false 1023 (pos 0)) tt tt) (mul-pos J (down-pos e)) (exact t s (m * up e) (v .0) (v .1) h)
-    ∙ round-same binary64 false (j * down e) (down e * 1) j 1 (mul-pos (down-pos e) one-pos) one-pos (omega arith)
+    ∙ round-same binary64 false (j * down e) (down e * 1) j 1 (mul-pos (down-pos e) (lit< tt)) (lit< tt) (omega arith)
   where
     exact : (t s : Bool) (a : ℕ) → t ≡ s → a * 1 ≡ n * down e → P s n + 1023 ≡ j + N s n → j * down e + (N t a * 1 + 0 * down e) ≡ P t a * 1 + 1023 * 1 * down e
     exact true true a u v h = let w : 1023 * down e ≡ (j + n) * down e = ap (λ (x : ℕ). x * down e) (omega arith) in omega arith
@@ -87,10 +84,10 @@ field-two k i h e =
     rw (bias-is, e, is-true (le one (ofInt binary64 (pos (suc i)))) low, is-true (le (ofInt binary64 (pos (suc i))) fieldMost) high, unsigned-back binary64 64 (suc i) small (omega arith) .1) (bits-of i h)
   where
     low : T (le one (ofInt binary64 (pos (suc i))))
-    low = rw one-is (unfold ofInt in round-mono binary64 1 1 (suc i) 1 one-pos one-pos (omega arith))
+    low = rw one-is (unfold ofInt in round-mono binary64 1 1 (suc i) 1 (lit< tt) (lit< tt) (omega arith))
 
     high : T (le (ofInt binary64 (pos (suc i))) fieldMost)
-    high = rw most-is (unfold ofInt in round-mono binary64 (suc i) 1 2046 1 one-pos one-pos (omega arith))
+    high = rw most-is (unfold ofInt in round-mono binary64 (suc i) 1 2046 1 (lit< tt) (lit< tt) (omega arith))
 
     small : T (inFloat binary64 (pos (suc i)))
     small = unfold inFloat in le→leb (suc i) 9007199254740992 (omega arith)

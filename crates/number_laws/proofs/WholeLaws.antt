@@ -1,14 +1,14 @@
 -- Rounding to whole, floor and ceiling give what specs/WholeLaws.antt says, for every finite f64. Assumes nothing.
 use mathlib.Core.Path.{_≡_, refl, sym, ap, _∙_, subst}
 use Prim.Native.Nat.{ℕ, zero, suc, _+_, _*_, _/_, _%_, _^_, _≤_, _<_}
-use native.Mathlib.Nat.{le-mul-of-pos-right, le-of-suc-le-suc, le-trans, le-of-eq, le-antisymm, lt-irrefl, lt-of-lt-of-le, lt-of-not-le, le-of-lt, mul-one, mul-assoc, mul-le-mul-right, mul-lt-mul-of-pos-right, mul-pos, zero-mul, zero-lt-suc, div-add-mod', mod-lt}
+use native.Mathlib.Nat.{le-mul-of-pos-right, le-of-suc-le-suc, le-trans, le-of-eq, le-antisymm, lt-irrefl, lt-of-lt-of-le, lt-of-not-le, le-of-lt, mul-one, mul-assoc, mul-le-mul-right, mul-lt-mul-of-pos-right, mul-pos, zero-lt-suc, div-add-mod', mod-lt}
 use native.Mathlib.Omega.{arith}
-use mathlib.Core.Bool.{Bool, true, false, not, cond, _&&_, false≢true}
+use mathlib.Core.Bool.{Bool, true, false, not, cond, false≢true}
 use lib.IntN.{ℤ, pos, negsuc}
-use lib.Dec.{T, lit<, eqb·suc-zero, ltb, eqb, leb, ltb→lt}
+use lib.Dec.{T, lit<, eqb·suc-zero, eqb}
 use lib.Pow.{pow-add, pow-pos}
 use lib.Ieee.{Float, nan, inf, fin, binary64, up, down, round, neg, fits, le, ofBits}
-use lib.Ieee.Fits.{down-pos, round-fits, neg-fits, and-l, and-r}
+use lib.Ieee.Fits.{down-pos, round-fits, neg-fits}
 use lib.Ieee.Exact.{HasValue, round-exact}
 use lib.Ieee.Back.{round-whole, whole-unique}
 use lib.Ieee.Scale.{finite}
@@ -20,28 +20,11 @@ use Rattle.number_laws.specs.Values.{Number, Monotone}
 use Rattle.number_laws.specs.WholeLaws.{Nearest, Cut, Raised, RoundsTo, FloorsTo, CeilsTo, WholeFrom, ToWhole, RoundLaws, FloorLaws, CeilLaws, FloorLargest, CeilSmallest, MinusZero}
 use Rattle.number_laws.proofs.Order.{P, N, le→below, below→le, monotone-of-finite, neg-le, neg-finite}
 use Rattle.number_laws.proofs.Rounding.{signed-mono, round-sided, sided-number, is-own}
+use Rattle.number_laws.proofs.Placed.{fits-few, fits-under}
 
 -- ---- n less than one from a / c
 abbrev Close : ℕ → ℕ → ℕ → Type 0
 Close a c n = (n * c < a + c) × (a < n * c + c)
-
-one-pos : 0 < 1
-one-pos = zero-lt-suc 0
-
--- ---- what fitting says
-small : (s : Bool) (m : ℕ) (e : ℤ) → T (fits binary64 (fin s m e)) → m < 2 ^ 53
-unfolding fits
-small s zero e h = lit< tt
-small s (suc m) e h =
-    let a = eqb (suc m % 2) 1 in
-    let b = ltb (suc m) (2 ^ 53) in
-    let c = leb (down e) (2 ^ 1074) in
-    ltb→lt (suc m) (2 ^ 53) (and-r a b (and-l (a && b) c (and-l (a && b && c) (ltb (suc m * up e) (2 ^ 1024 * down e)) h)))
-
-under : (s : Bool) (m : ℕ) (e : ℤ) → T (fits binary64 (fin s m e)) → m * up e < 2 ^ 1024 * down e
-unfolding fits
-under s zero e h = subst (λ (z : ℕ). z < 2 ^ 1024 * down e) (sym (zero-mul (up e))) (mul-pos (pow-pos 1024) (down-pos e))
-under s (suc m) e h = ltb→lt (suc m * up e) (2 ^ 1024 * down e) (and-r (eqb (suc m % 2) 1 && ltb (suc m) (2 ^ 53) && leb (down e) (2 ^ 1074)) (ltb (suc m * up e) (2 ^ 1024 * down e)) h)
 
 -- ---- such an n is an f64
 exact : (s : Bool) (m : ℕ) (e : ℤ) (n : ℕ) → T (fits binary64 (fin s m e)) → Close (m * up e) (down e) n → HasValue (round binary64 s n 1) s n 1
@@ -54,11 +37,11 @@ exact s m (pos k) n F h = subst (λ (z : ℕ). HasValue (round binary64 s z 1) s
     shifted = mul-assoc m (2 ^ k) (2 ^ 1074) ∙ ap (λ (z : ℕ). m * z) (sym (pow-add 2 k 1074))
 
     room : m * 2 ^ (k + 1074) < 2 ^ (1074 + 1024)
-    room = subst (λ (z : ℕ). z < 2 ^ (1074 + 1024)) shifted (subst (λ (z : ℕ). m * 2 ^ k * 2 ^ 1074 < z) (sym (pow-add 2 1024 1074)) (mul-lt-mul-of-pos-right (subst (λ (z : ℕ). m * 2 ^ k < z) (mul-one (2 ^ 1024)) (under s m (pos k) F)) (pow-pos 1074)))
+    room = subst (λ (z : ℕ). z < 2 ^ (1074 + 1024)) shifted (subst (λ (z : ℕ). m * 2 ^ k * 2 ^ 1074 < z) (sym (pow-add 2 1024 1074)) (mul-lt-mul-of-pos-right (subst (λ (z : ℕ). m * 2 ^ k < z) (mul-one (2 ^ 1024)) (fits-under binary64 s m (pos k) F)) (pow-pos 1074)))
 
     own : HasValue (round binary64 s (m * 2 ^ k) 1) s (m * 2 ^ k) 1
-    own = round-exact binary64 s (m * 2 ^ k) 1 m (k + 1074) one-pos (small s m (pos k) F) room (shifted ∙ sym (mul-one (m * 2 ^ (k + 1074))))
-exact s m (negsuc k) n F h = round-whole binary64 s n (le-trans (less n m (2 ^ suc k) (pow-pos (suc k)) (h .0)) (le-of-lt (small s m (negsuc k) F)))
+    own = round-exact binary64 s (m * 2 ^ k) 1 m (k + 1074) (lit< tt) (fits-few binary64 s m (pos k) F) room (shifted ∙ sym (mul-one (m * 2 ^ (k + 1074))))
+exact s m (negsuc k) n F h = round-whole binary64 s n (le-trans (less n m (2 ^ suc k) (pow-pos (suc k)) (h .0)) (le-of-lt (fits-few binary64 s m (negsuc k) F)))
   where
     less : (n m c : ℕ) → 0 < c → n * c < m * 1 + c → n ≤ m
     less zero m c C g = omega arith
@@ -146,7 +129,7 @@ pub record Rounder (rule : Bool → ℕ → ℕ → ℕ → Type 0) (f : Float �
 
 -- ---- the order of what is rounded
 round-ordered : (s t : Bool) (n k : ℕ) → P s n + N t k ≤ P t k + N s n → T (le (round binary64 s n 1) (round binary64 t k 1))
-round-ordered s t n k h = signed-mono binary64 s n (P s n) (N s n) 1 t k (P t k) (N t k) 1 one-pos one-pos (is-own s n) (is-own t k) (omega arith)
+round-ordered s t n k h = signed-mono binary64 s n (P s n) (N s n) 1 t k (P t k) (N t k) 1 (lit< tt) (lit< tt) (is-own s n) (is-own t k) (omega arith)
 
 -- no whole number is beside 0 / c but 0
 none : (a c n d : ℕ) → 0 < d → a * d ≡ 0 → Close a c n → n ≡ 0
@@ -258,7 +241,7 @@ floor-largest (inf s) F X = absurd X
 floor-largest (fin s m e) F X =
     let w = floor-laws .gives-whole s m e F in
     record {
-      below = in-order s (wholeBelow (fin s m e)) (fin s m e) (w .n) 1 (m * up e) (down e) one-pos (down-pos e) (w .value) (refl, refl) (side s (w .n) (m * up e) (down e) (w .near));
+      below = in-order s (wholeBelow (fin s m e)) (fin s m e) (w .n) 1 (m * up e) (down e) (lit< tt) (down-pos e) (w .value) (refl, refl) (side s (w .n) (m * up e) (down e) (w .near));
       largest = λ y t k G v h. subst (λ (z : Float). T (le z (wholeBelow (fin s m e)))) (floor-laws .keeps-whole y t k G v) (floor-laws .monotone y (fin s m e) h);
     }
   where

@@ -52,30 +52,25 @@ sumMost = fin false 7 (negsuc 1)
 abbrev pub ExpSeriesBounded : Type 0
 ExpSeriesBounded = (r : Float) → Between restMost⁻ restMost r → Between sumLeast sumMost (expSeries 13 r one)
 
--- ---- E at an x that is no NaN: no NaN, not negative, above zero from -690 on, finite up to 690, and at most 2 up to 0
-pub record ExpLaws (x : Float) : Type 0 where
-  pub number : Number (expOf x)
-  pub not-negative : NotNegative (expOf x)
-  pub above-zero : T (le limit⁻ x) → T (lt zero⁺ (expOf x))
-  pub is-finite : T (le x limit) → T (finite (expOf x))
-  pub at-most-two : T (le x zero⁺) → T (le (expOf x) two)
+-- ---- E and 10^y
+-- g x is no NaN, not negative, above zero from x = l on, finite up to x = u, and at most 2 up to x = 0.
+pub record Exponential (g : Float → Float) (l u x : Float) : Type 0 where
+  pub number : Number (g x)
+  pub not-negative : NotNegative (g x)
+  pub above-zero : T (le l x) → T (lt zero⁺ (g x))
+  pub is-finite : T (le x u) → T (finite (g x))
+  pub at-most-two : T (le x zero⁺) → T (le (g x) two)
 
-abbrev pub ExpHasLaws : Type 0
-ExpHasLaws = (x : Float) → Number x → ExpLaws x
+-- So is E for every x that is no NaN, with l = -690 and u = 690.
+abbrev pub ExpLaws : Type 0
+ExpLaws = (x : Float) → Number x → Exponential expOf limit⁻ limit x
 
--- ---- 10^y at a y that is no NaN: the same, from -299 on and up to 299, since 299 × ln 10 is below 690
+-- And so is 10^y, with l = -299 and u = 299: 299 × ln 10 is below 690.
 abbrev pub tenMost : Float
 tenMost = fin false 299 (pos 0)
 
 abbrev pub tenMost⁻ : Float
 tenMost⁻ = fin true 299 (pos 0)
 
-pub record TenToLaws (y : Float) : Type 0 where
-  pub number : Number (tenTo y)
-  pub not-negative : NotNegative (tenTo y)
-  pub above-zero : T (le tenMost⁻ y) → T (lt zero⁺ (tenTo y))
-  pub is-finite : T (le y tenMost) → T (finite (tenTo y))
-  pub at-most-two : T (le y zero⁺) → T (le (tenTo y) two)
-
-abbrev pub TenToHasLaws : Type 0
-TenToHasLaws = (y : Float) → Number y → TenToLaws y
+abbrev pub TenToLaws : Type 0
+TenToLaws = (y : Float) → Number y → Exponential tenTo tenMost⁻ tenMost y

@@ -5,11 +5,11 @@ use mathlib.Core.Path.{_≡_}
 use lib.IntN.{pos, negsuc}
 use lib.Ieee.{fin}
 use Rattle.numbers.specs.Arithmetic.{zero⁺, one}
-use Rattle.numbers.specs.Exponential.{expOf}
-use Rattle.numbers.specs.Logarithm.{logOf}
+use Rattle.numbers.specs.Whole.{wholeNearest}
 use Rattle.numbers.specs.Narrow.{nearestF32}
 use Rattle.numbers.specs.Root.{rootOf}
-use Rattle.numbers.specs.Whole.{wholeNearest}
+use Rattle.numbers.specs.Exponential.{expOf}
+use Rattle.numbers.specs.Logarithm.{logOf}
 
 pub record Figures : Type 0 where
   -- root of 2.25 is 1.5: of 9 × 2^-2, 3 × 2^-1

@@ -13,6 +13,7 @@ use lib.Ieee.Nearest.{div-same}
 use Rattle.numbers.specs.Parts.{Parted}
 use Rattle.numbers.specs.Whole.{halfUp, upward, wholeNearest, wholeBelow, wholeAbove}
 use Rattle.numbers.proofs.Encode.{same-value}
+use Rattle.numbers.proofs.Value.{same-fraction}
 use Rattle.numbers.proofs.Sign.{neg-neg, neg-round}
 
 -- ---- the ceiling is the floor from the other side of zero
@@ -30,7 +31,7 @@ above-is (fin true m e) = neg-round binary64 (m * up e / down e) 1
 pub round-own : (x : Float) (s : Bool) (sig exp num den : ℕ) → T (fits binary64 x) → Parted x s sig exp → 0 < den → num * 2 ^ 1074 ≡ sig * 2 ^ exp * den → round binary64 s num den ≡ x
 round-own x s sig exp num den F P D e =
     same-value binary64 (round binary64 s num den) x s (sig * 2 ^ exp) (round-fits binary64 s num den) F
-    (rescaled (round binary64 s num den) (round-exact binary64 s num den sig exp D (P .sig-lt) under e))
+    (same-fraction (round binary64 s num den) s num den (sig * 2 ^ exp) (2 ^ 1074) D (sym e) (round-exact binary64 s num den sig exp D (P .sig-lt) under e))
     (P .value)
   where
     under : sig * 2 ^ exp < 2 ^ 2098
@@ -38,15 +39,6 @@ round-own x s sig exp num den F P D e =
       where
         top : (k : ℕ) → k ≤ 2045 → 53 + k ≤ 2098
         top k h = omega arith
-
-    rescaled : (v : Float) → HasValue v s num den → HasValue v s (sig * 2 ^ exp) (2 ^ 1074)
-    rescaled nan h = absurd h
-    rescaled (inf t) h = absurd h
-    rescaled (fin t m g) h = (
-      h .0,
-      eq-of-mul-eq-mul-right den D (m * up g * 2 ^ 1074) (sig * 2 ^ exp * down g)
-          (mul-right-comm (m * up g) (2 ^ 1074) den ∙ ap (λ (z : ℕ). z * 2 ^ 1074) (h .1) ∙ mul-right-comm num (down g) (2 ^ 1074) ∙ ap (λ (z : ℕ). z * down g) e ∙ mul-right-comm (sig * 2 ^ exp) den (down g)),
-    )
 
 -- ---- equal fractions
 halfUp-same : (X D s c : ℕ) → 0 < D → 0 < c → X * c ≡ s * D → halfUp X D ≡ halfUp s c
