@@ -15,7 +15,7 @@ use lib.Ieee.Scale.{round-same}
 use Rattle.number_laws.specs.Values.{AtMost}
 use Rattle.number_laws.proofs.Order.{P, N, cross}
 use Rattle.number_laws.proofs.Rounding.{Is, magnitude-round}
-use Rattle.number_laws.proofs.Sums.{sum-sums}
+use Rattle.number_laws.proofs.Sums.{sum-rounded}
 
 -- ---- a fraction q / 2^t of a format
 pub dyadic-exact : (f : Format) (s : Bool) (q t : ℕ) → q < 2 ^ prec f → t ≤ low f → HasValue (round f s q (2 ^ t)) s q (2 ^ t)
@@ -70,7 +70,7 @@ pub sub-near : (f : Format) (s : Bool) (m : ℕ) (e : ℤ) (n : ℕ) (d : ℤ) (
 unfolding sub neg add
 sub-near f s m e n d u v pv h k =
     let c = down e * down d in
-    let z = sum-sums f s (m * up e * down d) (not s) (n * up d * down e) c in
+    let z = sum-rounded f s (m * up e * down d) (not s) (n * up d * down e) c in
     rw (z .rounded, magnitude-round f (z .sign) (z .size) c)
     (round-mono f (z .size) c u v (mul-pos (down-pos e) (down-pos d)) pv (gap s (z .sign) (z .size) (m * up e * down d) (n * up d * down e) (u * c) (z .is) h k))
   where

@@ -1,4 +1,4 @@
--- The order of floats: over whole numbers, it is that of (Pos - Neg) / Den; it is transitive, total but for NaN, and turned by negation. Assumes nothing.
+-- The order of floats: over whole numbers, it is that of (Pos - Neg) / Den; it is transitive, total but for NaN, and turned by negation; and |x| ≤ b is -b ≤ x ≤ b. Assumes nothing.
 use mathlib.Core.Path.{_≡_, refl, sym}
 use mathlib.Core.Logic.{_⊎_, inl, inr}
 use Prim.Native.Nat.{ℕ, _+_, _*_, _≤_, _<_}
@@ -39,30 +39,30 @@ or-split : (a b : Bool) → T (a || b) → T a ⊎ T b
 or-split true b t = inl tt
 or-split false b t = inr t
 
--- the Boolean order of signed numbers, and the linear one
-pub fromS : (s : Bool) (a : ℕ) (t : Bool) (b : ℕ) → T (below s a t b || level s a t b) → P s a + N t b ≤ P t b + N s a
-fromS false a false b h = elim (or-split (ltb a b) (eqb a b && (true || eqb a 0)) h) [
+-- ±a ≤ ±b, as `le` tests it and over whole numbers
+pub tested→ordered : (s : Bool) (a : ℕ) (t : Bool) (b : ℕ) → T (below s a t b || level s a t b) → P s a + N t b ≤ P t b + N s a
+tested→ordered false a false b h = elim (or-split (ltb a b) (eqb a b && (true || eqb a 0)) h) [
   | inl u ↦ let x = ltb→lt a b u in omega arith
   | inr u ↦ let x = eqb→eq a b (and-l (eqb a b) true u) in omega arith
 ]
-fromS false a true b h = let x = eqb→eq a b (and-l (eqb a b) (eqb a 0) h) in let y = eqb→eq a 0 (and-r (eqb a b) (eqb a 0) h) in omega arith
-fromS true a false b h = omega arith
-fromS true a true b h = elim (or-split (ltb b a) (eqb a b && (true || eqb a 0)) h) [
+tested→ordered false a true b h = let x = eqb→eq a b (and-l (eqb a b) (eqb a 0) h) in let y = eqb→eq a 0 (and-r (eqb a b) (eqb a 0) h) in omega arith
+tested→ordered true a false b h = omega arith
+tested→ordered true a true b h = elim (or-split (ltb b a) (eqb a b && (true || eqb a 0)) h) [
   | inl u ↦ let x = ltb→lt b a u in omega arith
   | inr u ↦ let x = eqb→eq a b (and-l (eqb a b) true u) in omega arith
 ]
 
-pub toS : (s : Bool) (a : ℕ) (t : Bool) (b : ℕ) → P s a + N t b ≤ P t b + N s a → T (below s a t b || level s a t b)
-toS false a false b h = elim (eq-or-lt-of-le {n = a} {m = b} (omega arith)) [
+pub ordered→tested : (s : Bool) (a : ℕ) (t : Bool) (b : ℕ) → P s a + N t b ≤ P t b + N s a → T (below s a t b || level s a t b)
+ordered→tested false a false b h = elim (eq-or-lt-of-le {n = a} {m = b} (omega arith)) [
   | inl u ↦ or-r (ltb a b) (eqb a b && true) (and-i (eqb a b) true (eq→eqb u) tt)
   | inr u ↦ or-l (ltb a b) (eqb a b && true) (lt→ltb a b u)
 ]
-toS false a true b h = let x : a ≡ 0 = omega arith in let y : a ≡ b = omega arith in and-i (eqb a b) (eqb a 0) (eq→eqb y) (eq→eqb x)
-toS true a false b h = elim (eq-zero-or-pos (a + b)) [
+ordered→tested false a true b h = let x : a ≡ 0 = omega arith in let y : a ≡ b = omega arith in and-i (eqb a b) (eqb a 0) (eq→eqb y) (eq→eqb x)
+ordered→tested true a false b h = elim (eq-zero-or-pos (a + b)) [
   | inl z ↦ let x : a ≡ 0 = omega arith in let y : a ≡ b = omega arith in or-r (ltb 0 (a + b)) (eqb a b && eqb a 0) (and-i (eqb a b) (eqb a 0) (eq→eqb y) (eq→eqb x))
   | inr p ↦ or-l (ltb 0 (a + b)) (eqb a b && eqb a 0) (lt→ltb 0 (a + b) p)
 ]
-toS true a true b h = elim (eq-or-lt-of-le {n = b} {m = a} (omega arith)) [
+ordered→tested true a true b h = elim (eq-or-lt-of-le {n = b} {m = a} (omega arith)) [
   | inl u ↦ or-r (ltb b a) (eqb a b && true) (and-i (eqb a b) true (eq→eqb (sym u)) tt)
   | inr u ↦ or-l (ltb b a) (eqb a b && true) (lt→ltb b a u)
 ]
@@ -106,7 +106,7 @@ le→below (fin s m e) (fin t n d) p q h =
     let y = P-mul t (n * up d) (down e) in
     let u = N-mul s (m * up e) (down d) in
     let v = N-mul t (n * up d) (down e) in
-    let z = fromS s (m * up e * down d) t (n * up d * down e) h in
+    let z = tested→ordered s (m * up e * down d) t (n * up d * down e) h in
     omega arith
 
 pub below→le : (x y : Float) → T (finite x) → T (finite y) → Below x y → T (le x y)
@@ -120,12 +120,12 @@ below→le (fin s m e) (fin t n d) p q h =
     let y = P-mul t (n * up d) (down e) in
     let u = N-mul s (m * up e) (down d) in
     let v = N-mul t (n * up d) (down e) in
-    toS s (m * up e * down d) t (n * up d * down e) (omega arith)
+    ordered→tested s (m * up e * down d) t (n * up d * down e) (omega arith)
 
 -- of values that are not negative
 pub cross : (m : ℕ) (e : ℤ) (n : ℕ) (d : ℤ) → T (le (fin false m e) (fin false n d)) → m * up e * down d ≤ n * up d * down e
 unfolding le
-cross m e n d h = let z = fromS false (m * up e * down d) false (n * up d * down e) h in omega arith
+cross m e n d h = let z = tested→ordered false (m * up e * down d) false (n * up d * down e) h in omega arith
 
 -- a sum of whole numbers, multiplied through
 pub times : (a b c d e : ℕ) → a + b ≤ c + d → a * e + b * e ≤ c * e + d * e
@@ -203,7 +203,7 @@ le→not-lt (inf false) (fin t n d) h = tt
 le→not-lt (fin s m e) nan h = tt
 le→not-lt (fin s m e) (inf true) h = tt
 le→not-lt (fin s m e) (inf false) h = absurd h
-le→not-lt (fin s m e) (fin t n d) h = flip s (m * up e * down d) t (n * up d * down e) (fromS t (n * up d * down e) s (m * up e * down d) h)
+le→not-lt (fin s m e) (fin t n d) h = flip s (m * up e * down d) t (n * up d * down e) (tested→ordered t (n * up d * down e) s (m * up e * down d) h)
   where
     flip : (s : Bool) (a : ℕ) (t : Bool) (b : ℕ) → P t b + N s a ≤ P s a + N t b → T (not (below s a t b))
     flip false a false b h = not-T (ltb a b) (λ l. let x = ltb→lt a b l in omega arith)
@@ -223,7 +223,7 @@ not-lt→le (inf true) (fin t n d) X Y h = absurd (unfold lt in h)
 not-lt→le (inf false) (fin t n d) X Y h = unfold le in tt
 not-lt→le (fin s m e) (inf true) X Y h = unfold le in tt
 not-lt→le (fin s m e) (inf false) X Y h = absurd (unfold lt in h)
-not-lt→le (fin s m e) (fin t n d) X Y h = unfold le in toS t (n * up d * down e) s (m * up e * down d) (flip s (m * up e * down d) t (n * up d * down e) (unfold lt in h))
+not-lt→le (fin s m e) (fin t n d) X Y h = unfold le in ordered→tested t (n * up d * down e) s (m * up e * down d) (flip s (m * up e * down d) t (n * up d * down e) (unfold lt in h))
   where
     flip : (s : Bool) (a : ℕ) (t : Bool) (b : ℕ) → T (not (below s a t b)) → P t b + N s a ≤ P s a + N t b
     flip false a false b h = let x = nltb→le a b h in omega arith
@@ -307,7 +307,7 @@ neg-le (fin s m e) (inf false) h = tt
 neg-le (fin s m e) (fin t n d) h = turn s t (m * up e * down d) (n * up d * down e) h
   where
     turn : (s t : Bool) (a b : ℕ) → T (below s a t b || level s a t b) → T (below (not t) b (not s) a || level (not t) b (not s) a)
-    turn s t a b h = toS (not t) b (not s) a (flip s t (fromS s a t b h))
+    turn s t a b h = ordered→tested (not t) b (not s) a (flip s t (tested→ordered s a t b h))
       where
         flip : (s t : Bool) → P s a + N t b ≤ P t b + N s a → P (not t) b + N (not s) a ≤ P (not s) a + N (not t) b
         flip true true h = omega arith

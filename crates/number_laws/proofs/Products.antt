@@ -15,16 +15,16 @@ use Rattle.numbers.proofs.Value.{finite-no-nan}
 use Rattle.number_laws.specs.Values.{Number, Den, magnitude, AtMost, NotNegative, Monotone}
 use Rattle.number_laws.specs.FloatLaws.{MulMonotone, MulMonotoneBy, MulMonotoneByPositive, MulNumber, DivMonotone, MulNotNegative, DivNotNegative, SquareNotNegative, MulAtMost, DivAtMost, MulBetween, MulBetweenBy}
 use Rattle.number_laws.proofs.Order.{P, N, Pos, Neg, den-pos, times, le→below, le-self, le-transitive, monotone-of-finite, between-finite, magnitude-finite, magnitude-not-negative, at-most-finite, no-negative-part, positive-above, positive-not-negative}
-use Rattle.number_laws.proofs.Rounding.{Is, Sums, sums-mono, zeros, round-sided, sided-number, sided-not-negative, magnitude-round}
+use Rattle.number_laws.proofs.Rounding.{Is, Rounded, rounded-mono, zeros, round-sided, sided-number, sided-not-negative, magnitude-round}
 
 -- ---- a product is a signed fraction, rounded
-mul-sums : (f : Format) (x y : Float) → T (finite x) → T (finite y) → Sums f (Pos x * Pos y + Neg x * Neg y) (Pos x * Neg y + Neg x * Pos y) (Den x * Den y) (mul f x y)
+mul-rounded : (f : Format) (x y : Float) → T (finite x) → T (finite y) → Rounded f (Pos x * Pos y + Neg x * Neg y) (Pos x * Neg y + Neg x * Pos y) (Den x * Den y) (mul f x y)
 unfolding mul
-mul-sums f nan y X Y = absurd X
-mul-sums f (inf s) y X Y = absurd X
-mul-sums f (fin s m e) nan X Y = absurd Y
-mul-sums f (fin s m e) (inf t) X Y = absurd Y
-mul-sums f (fin s m e) (fin t n d) X Y = record { sign = unlike s t; size = m * up e * (n * up d); is = signs s t (m * up e) (n * up d); rounded = refl }
+mul-rounded f nan y X Y = absurd X
+mul-rounded f (inf s) y X Y = absurd X
+mul-rounded f (fin s m e) nan X Y = absurd Y
+mul-rounded f (fin s m e) (inf t) X Y = absurd Y
+mul-rounded f (fin s m e) (fin t n d) X Y = record { sign = unlike s t; size = m * up e * (n * up d); is = signs s t (m * up e) (n * up d); rounded = refl }
   where
     signs : (s t : Bool) (a b : ℕ) → Is (unlike s t) (a * b) (P s a * P t b + N s a * N t b) (P s a * N t b + N s a * P t b)
     signs true true a b = omega arith
@@ -33,7 +33,7 @@ mul-sums f (fin s m e) (fin t n d) X Y = record { sign = unlike s t; size = m * 
     signs false false a b = omega arith
 
 mul-finite-number : (f : Format) (x y : Float) → T (finite x) → T (finite y) → Number (mul f x y)
-mul-finite-number f x y X Y = let z = mul-sums f x y X Y in rw (z .rounded) (sided-number (z .sign) _ (round-sided f (z .sign) (z .size) (Den x * Den y)))
+mul-finite-number f x y X Y = let z = mul-rounded f x y X Y in rw (z .rounded) (sided-number (z .sign) _ (round-sided f (z .sign) (z .size) (Den x * Den y)))
 
 regroup : (a b c d : ℕ) → a * b * (c * d) ≡ a * c * (b * d)
 regroup a b c d = simp (mul-assoc, mul-left-comm)
@@ -41,7 +41,7 @@ regroup a b c d = simp (mul-assoc, mul-left-comm)
 -- ---- it grows with its factors
 pub mul-mono-by : MulMonotoneBy
 mul-mono-by f x x' k X X' K p h =
-    sums-mono f _ _ _ _ _ _ (mul f x k) (mul f x' k) (mul-pos (den-pos x) (den-pos k)) (mul-pos (den-pos x') (den-pos k)) (mul-sums f x k X K) (mul-sums f x' k X' K)
+    rounded-mono f _ _ _ _ _ _ (mul f x k) (mul f x' k) (mul-pos (den-pos x) (den-pos k)) (mul-pos (den-pos x') (den-pos k)) (mul-rounded f x k X K) (mul-rounded f x' k X' K)
     (rw (no-negative-part k K p) (spread (Pos x) (Neg x) (Den x) (Pos x') (Neg x') (Den x') (Pos k) (Den k) (le→below x x' X X' h)))
   where
     spread : (a n d a' n' d' b c : ℕ) → a * d' + n' * d ≤ a' * d + n * d' → (a * b + n * 0) * (d' * c) + (a' * 0 + n' * b) * (d * c) ≤ (a' * b + n' * 0) * (d * c) + (a * 0 + n * b) * (d' * c)
@@ -63,7 +63,7 @@ pub mul-mono : MulMonotone
 mul-mono f x x' y y' X X' Y Y' p q h k =
     let p' : NotNegative x' = le-transitive zero⁺ x x' p h in
     let q' : NotNegative y' = le-transitive zero⁺ y y' q k in
-    sums-mono f _ _ _ _ _ _ (mul f x y) (mul f x' y') (mul-pos (den-pos x) (den-pos y)) (mul-pos (den-pos x') (den-pos y')) (mul-sums f x y X Y) (mul-sums f x' y' X' Y')
+    rounded-mono f _ _ _ _ _ _ (mul f x y) (mul f x' y') (mul-pos (den-pos x) (den-pos y)) (mul-pos (den-pos x') (den-pos y')) (mul-rounded f x y X Y) (mul-rounded f x' y' X' Y')
     (rw (no-negative-part x X p, no-negative-part y Y q, no-negative-part x' X' p', no-negative-part y' Y' q')
     (spread (Pos x * Pos y) (Pos x' * Pos y') (Pos x) (Pos y) (Pos x') (Pos y') (Den x * Den y) (Den x' * Den y')
     (le-trans (le-of-eq (regroup (Pos x) (Pos y) (Den x') (Den y'))) (le-trans (mul-le-mul (below-parts x x' X X' p p' h) (below-parts y y' Y Y' q q' k)) (le-of-eq (regroup (Pos x') (Den x) (Pos y') (Den y)))))))
@@ -152,13 +152,13 @@ div-is f s m e t n d N = go (eqb n 0) (eqb→eq n 0)
     go true q = absurd (lt-irrefl 0 (subst (λ (k : ℕ). 0 < k) (q tt) N))
     go false q = refl
 
-div-sums : (f : Format) (x y : Float) → T (finite x) → T (positive y) → Sums f (Pos x * Den y) (Neg x * Den y) (Pos y * Den x) (div f x y)
-div-sums f nan y X Y = absurd X
-div-sums f (inf s) y X Y = absurd X
-div-sums f (fin s m e) nan X Y = absurd Y
-div-sums f (fin s m e) (inf t) X Y = absurd Y
-div-sums f (fin s m e) (fin true n d) X Y = absurd Y
-div-sums f (fin s m e) (fin false n d) X Y = rw (div-is f s m e false n d (ltb→lt 0 n Y)) (record { sign = unlike s false; size = m * up e * down d; is = signs s (m * up e) (down d); rounded = refl })
+div-rounded : (f : Format) (x y : Float) → T (finite x) → T (positive y) → Rounded f (Pos x * Den y) (Neg x * Den y) (Pos y * Den x) (div f x y)
+div-rounded f nan y X Y = absurd X
+div-rounded f (inf s) y X Y = absurd X
+div-rounded f (fin s m e) nan X Y = absurd Y
+div-rounded f (fin s m e) (inf t) X Y = absurd Y
+div-rounded f (fin s m e) (fin true n d) X Y = absurd Y
+div-rounded f (fin s m e) (fin false n d) X Y = rw (div-is f s m e false n d (ltb→lt 0 n Y)) (record { sign = unlike s false; size = m * up e * down d; is = signs s (m * up e) (down d); rounded = refl })
   where
     signs : (s : Bool) (a k : ℕ) → Is (unlike s false) (a * k) (P s a * k) (N s a * k)
     signs true a k = omega arith
@@ -173,7 +173,7 @@ positive-part (fin false n d) Y = mul-pos (ltb→lt 0 n Y) (up-pos d)
 pub div-mono : DivMonotone
 div-mono f x x' y y' X X' Y Y' p h k =
     let p' : NotNegative x' = le-transitive zero⁺ x x' p h in
-    sums-mono f _ _ _ _ _ _ (div f x y) (div f x' y') (mul-pos (positive-part y Y) (den-pos x)) (mul-pos (positive-part y' Y') (den-pos x')) (div-sums f x y X Y) (div-sums f x' y' X' Y')
+    rounded-mono f _ _ _ _ _ _ (div f x y) (div f x' y') (mul-pos (positive-part y Y) (den-pos x)) (mul-pos (positive-part y' Y') (den-pos x')) (div-rounded f x y X Y) (div-rounded f x' y' X' Y')
     (rw (no-negative-part x X p, no-negative-part x' X' p')
     (spread (Pos x) (Den x) (Pos x') (Den x') (Pos y) (Den y) (Pos y') (Den y') (below-parts x x' X X' p p' h)
     (below-parts y' y (positive-finite y' Y') (positive-finite y Y) (positive-not-negative y' Y') (positive-not-negative y Y) k)))

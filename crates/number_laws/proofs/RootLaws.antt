@@ -20,7 +20,7 @@ use Rattle.numbers.proofs.Value.{finite-no-nan, value-finite}
 use Rattle.numbers.proofs.root.Rooted.{root-value, root-fits, root-closest, root-positive, A}
 use Rattle.number_laws.specs.Values.{Units}
 use Rattle.number_laws.specs.RootLaws.{NearestRoot, RootNearest, RootMonotone, smallestNormalRoot, RootNormal}
-use Rattle.number_laws.proofs.Order.{P, N, fromS, toS, le-transitive, most-of-all, positive-above, positive-not-negative, positive-sign}
+use Rattle.number_laws.proofs.Order.{P, N, tested→ordered, ordered→tested, le-transitive, most-of-all, positive-above, positive-not-negative, positive-sign}
 use Rattle.number_laws.proofs.Placed.{placed, placed-units}
 
 -- ---- the nearest
@@ -86,12 +86,12 @@ unfolding le rootOf
 kind nan h = absurd h
 kind (inf true) h = absurd h
 kind (inf false) h = inr (inr refl)
-kind (fin s zero e) h = inl (refl, toS s (0 * up e * 1) false (0 * 1 * down e) (no-more s (up e) (down e)))
+kind (fin s zero e) h = inl (refl, ordered→tested s (0 * up e * 1) false (0 * 1 * down e) (no-more s (up e) (down e)))
   where
     no-more : (s : Bool) (u d : ℕ) → P s (0 * u * 1) + 0 ≤ 0 * 1 * d + N s (0 * u * 1)
     no-more true u d = omega arith
     no-more false u d = omega arith
-kind (fin true (suc m) e) h = absurd (none (suc m * up e) (down e) (mul-pos (zero-lt-suc m) (up-pos e)) (fromS false (0 * 1 * down e) true (suc m * up e * 1) h))
+kind (fin true (suc m) e) h = absurd (none (suc m * up e) (down e) (mul-pos (zero-lt-suc m) (up-pos e)) (tested→ordered false (0 * 1 * down e) true (suc m * up e * 1) h))
   where
     none : (a d : ℕ) → 0 < a → 0 * 1 * d + a * 1 ≤ 0 + 0 → ⊥
     none a d p g = omega arith

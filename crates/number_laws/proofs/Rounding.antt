@@ -120,14 +120,14 @@ signed-mono f false n p q c true n' p' q' c' C C' h k l =
     rw (a, b) (rw (zeros f false c C, zeros f true c' C') zero-le-zero)
 
 -- z is (p - q) / c, rounded
-pub record Sums (f : Format) (p q c : ℕ) (z : Float) : Type 0 where
+pub record Rounded (f : Format) (p q c : ℕ) (z : Float) : Type 0 where
   pub sign : Bool
   pub size : ℕ
   pub is : Is sign size p q
   pub rounded : z ≡ round f sign size c
 
-pub sums-mono : (f : Format) (p q c p' q' c' : ℕ) (z z' : Float) → 0 < c → 0 < c' → Sums f p q c z → Sums f p' q' c' z' → p * c' + q' * c ≤ p' * c + q * c' → T (le z z')
-sums-mono f p q c p' q' c' z z' C C' u v h = rw (u .rounded, v .rounded) (signed-mono f (u .sign) (u .size) p q c (v .sign) (v .size) p' q' c' C C' (u .is) (v .is) h)
+pub rounded-mono : (f : Format) (p q c p' q' c' : ℕ) (z z' : Float) → 0 < c → 0 < c' → Rounded f p q c z → Rounded f p' q' c' z' → p * c' + q' * c ≤ p' * c + q * c' → T (le z z')
+rounded-mono f p q c p' q' c' z z' C C' u v h = rw (u .rounded, v .rounded) (signed-mono f (u .sign) (u .size) p q c (v .sign) (v .size) p' q' c' C C' (u .is) (v .is) h)
 
 pub is-own : (s : Bool) (n : ℕ) → Is s n (P s n) (N s n)
 is-own true n = omega arith

@@ -13,37 +13,37 @@ use Rattle.numbers.specs.Arithmetic.{zero⁺}
 use Rattle.number_laws.specs.Values.{Den, magnitude, AtMost}
 use Rattle.number_laws.specs.FloatLaws.{AddMonotone, SubMonotone, SubAntitone, SubSelf, SubNotNegative, DistanceSymmetric, AddNotNegative, AddAtMost, SubAtMost, AddBetween}
 use Rattle.number_laws.proofs.Order.{P, N, P-mul, N-mul, Pos, Neg, den-pos, times, le→below, le-self, le-transitive, neg-le, neg-finite, between-finite, magnitude-finite, magnitude-neg, at-most-finite}
-use Rattle.number_laws.proofs.Rounding.{Is, Sums, sums-mono, zeros, magnitude-round, is-le}
+use Rattle.number_laws.proofs.Rounding.{Is, Rounded, rounded-mono, zeros, magnitude-round, is-le}
 
 -- ---- a sum is a signed fraction, rounded
-pub sum-sums : (f : Format) (s : Bool) (a : ℕ) (t : Bool) (b c : ℕ) → Sums f (P s a + P t b) (N s a + N t b) c (sum f s a t b c)
+pub sum-rounded : (f : Format) (s : Bool) (a : ℕ) (t : Bool) (b c : ℕ) → Rounded f (P s a + P t b) (N s a + N t b) c (sum f s a t b c)
 unfolding sum
-sum-sums f true a true b c = record { sign = true; size = a + b; is = omega arith; rounded = refl }
-sum-sums f false a false b c = record { sign = false; size = a + b; is = omega arith; rounded = refl }
-sum-sums f false a true b c = go (ltb a b) (ltb→lt a b) (nltb→le a b)
+sum-rounded f true a true b c = record { sign = true; size = a + b; is = omega arith; rounded = refl }
+sum-rounded f false a false b c = record { sign = false; size = a + b; is = omega arith; rounded = refl }
+sum-rounded f false a true b c = go (ltb a b) (ltb→lt a b) (nltb→le a b)
   where
-    go : (x : Bool) → (T x → a < b) → (T (not x) → b ≤ a) → Sums f (a + 0) (0 + b) c (cond x (round f true (b - a) c) (round f false (a - b) c))
+    go : (x : Bool) → (T x → a < b) → (T (not x) → b ≤ a) → Rounded f (a + 0) (0 + b) c (cond x (round f true (b - a) c) (round f false (a - b) c))
     go true h k = let l = h tt in record { sign = true; size = b - a; is = omega arith; rounded = refl }
     go false h k = let l = k tt in record { sign = false; size = a - b; is = omega arith; rounded = refl }
-sum-sums f true a false b c = go (ltb a b) (ltb→lt a b) (nltb→le a b)
+sum-rounded f true a false b c = go (ltb a b) (ltb→lt a b) (nltb→le a b)
   where
-    side : (y : Bool) → (T y → b < a) → (T (not y) → a ≤ b) → b ≤ a → Sums f (0 + b) (a + 0) c (round f y (a - b) c)
+    side : (y : Bool) → (T y → b < a) → (T (not y) → a ≤ b) → b ≤ a → Rounded f (0 + b) (a + 0) c (round f y (a - b) c)
     side true h k l = record { sign = true; size = a - b; is = omega arith; rounded = refl }
     side false h k l = let m = k tt in record { sign = false; size = a - b; is = omega arith; rounded = refl }
 
-    go : (x : Bool) → (T x → a < b) → (T (not x) → b ≤ a) → Sums f (0 + b) (a + 0) c (cond x (round f false (b - a) c) (round f (ltb b a) (a - b) c))
+    go : (x : Bool) → (T x → a < b) → (T (not x) → b ≤ a) → Rounded f (0 + b) (a + 0) c (cond x (round f false (b - a) c) (round f (ltb b a) (a - b) c))
     go true h k = let l = h tt in record { sign = false; size = b - a; is = omega arith; rounded = refl }
     go false h k = side (ltb b a) (ltb→lt b a) (nltb→le b a) (k tt)
 
-pub add-sums : (f : Format) (x k : Float) → T (finite x) → T (finite k) → Sums f (Pos x * Den k + Pos k * Den x) (Neg x * Den k + Neg k * Den x) (Den x * Den k) (add f x k)
+pub add-rounded : (f : Format) (x k : Float) → T (finite x) → T (finite k) → Rounded f (Pos x * Den k + Pos k * Den x) (Neg x * Den k + Neg k * Den x) (Den x * Den k) (add f x k)
 unfolding add
-add-sums f nan k p q = absurd p
-add-sums f (inf s) k p q = absurd p
-add-sums f (fin s m e) nan p q = absurd q
-add-sums f (fin s m e) (inf t) p q = absurd q
-add-sums f (fin s m e) (fin t n d) p q =
+add-rounded f nan k p q = absurd p
+add-rounded f (inf s) k p q = absurd p
+add-rounded f (fin s m e) nan p q = absurd q
+add-rounded f (fin s m e) (inf t) p q = absurd q
+add-rounded f (fin s m e) (fin t n d) p q =
     rw (← P-mul s (m * up e) (down d), ← P-mul t (n * up d) (down e), ← N-mul s (m * up e) (down d), ← N-mul t (n * up d) (down e))
-    (sum-sums f s (m * up e * down d) t (n * up d * down e) (down e * down d))
+    (sum-rounded f s (m * up e * down d) t (n * up d * down e) (down e * down d))
 
 -- ---- it grows with both its parts
 out : (a b c d e f : ℕ) → (a * d + b * c) * (e * f) ≡ a * e * (d * f) + b * f * (c * e)
@@ -60,7 +60,7 @@ lin px nx dx px' nx' dx' py ny dy py' ny' dy' h k =
 
 pub add-mono : AddMonotone
 add-mono f x x' y y' X X' Y Y' h k =
-    sums-mono f _ _ _ _ _ _ (add f x y) (add f x' y') (mul-pos (den-pos x) (den-pos y)) (mul-pos (den-pos x') (den-pos y')) (add-sums f x y X Y) (add-sums f x' y' X' Y')
+    rounded-mono f _ _ _ _ _ _ (add f x y) (add f x' y') (mul-pos (den-pos x) (den-pos y)) (mul-pos (den-pos x') (den-pos y')) (add-rounded f x y X Y) (add-rounded f x' y' X' Y')
     (lin (Pos x) (Neg x) (Den x) (Pos x') (Neg x') (Den x') (Pos y) (Neg y) (Den y) (Pos y') (Neg y') (Den y') (le→below x x' X X' h) (le→below y y' Y Y' k))
 
 pub sub-mono : SubMonotone
@@ -122,8 +122,8 @@ neg-pos (fin false m e) h = (refl, refl, refl)
 finite-distance : (f : Format) (x y : Float) → T (finite x) → T (finite y) → magnitude (sub f x y) ≡ magnitude (sub f y x)
 unfolding sub
 finite-distance f x y X Y =
-    let a = add-sums f x (neg y) X (neg-finite y Y) in
-    let b = add-sums f y (neg x) Y (neg-finite x X) in
+    let a = add-rounded f x (neg y) X (neg-finite y Y) in
+    let b = add-rounded f y (neg x) Y (neg-finite x X) in
     let u = neg-pos x X in
     let v = neg-pos y Y in
     ap magnitude (a .rounded) ∙ magnitude-round f (a .sign) (a .size) (Den x * Den (neg y))
@@ -160,7 +160,7 @@ triangle f (fin s m e) (fin t n d) X Y = unfold add sum magnitude in
     let b = n * up d * down e in
     let c = down e * down d in
     let C = mul-pos (down-pos e) (down-pos d) in
-    let z = sum-sums f s a t b c in
+    let z = sum-rounded f s a t b c in
     rw (z .rounded, magnitude-round f (z .sign) (z .size) c) (round-mono f (z .size) c (a + b) c C C (mul-le-mul-right c (le-trans (is-le (z .sign) (z .size) _ _ (z .is)) (le-of-eq (whole s t a b)))))
   where
     whole : (s t : Bool) (a b : ℕ) → P s a + P t b + (N s a + N t b) ≡ a + b

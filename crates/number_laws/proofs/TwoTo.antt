@@ -18,8 +18,8 @@ use Rattle.numbers.specs.Arithmetic.{_⊕_, one}
 use Rattle.numbers.specs.Exponential.{twoTo, bias, fieldMost}
 use Rattle.number_laws.specs.ExpLaws.{PowerOfTwo}
 use Rattle.number_laws.proofs.Order.{P, N}
-use Rattle.number_laws.proofs.Rounding.{Is, Sums}
-use Rattle.number_laws.proofs.Sums.{add-sums}
+use Rattle.number_laws.proofs.Rounding.{Is, Rounded}
+use Rattle.number_laws.proofs.Sums.{add-rounded}
 
 -- ---- the constants
 pub bias-is : bias ≡ fin false 1023 (pos 0)
@@ -36,7 +36,7 @@ one-is = refl
 
 -- ---- the field: ±n + 1023, not rounded
 -- a sum whose exact value a / c is above zero
-positive-sum : (f : Format) (p q c a : ℕ) (z : Float) → Sums f p q c z → 0 < a → a + q ≡ p → z ≡ round f false a c
+positive-sum : (f : Format) (p q c a : ℕ) (z : Float) → Rounded f p q c z → 0 < a → a + q ≡ p → z ≡ round f false a c
 positive-sum f p q c a z u A h = u .rounded ∙ go (u .sign) (u .size) (u .is)
   where
     go : (r : Bool) (n : ℕ) → Is r n p q → round f r n c ≡ round f false a c
@@ -48,7 +48,7 @@ unfolding ofInt
 field-of nan s n j v J h = absurd v
 field-of (inf t) s n j v J h = absurd v
 field-of (fin t m e) s n j v J h =
-    positive-sum binary64 _ _ (down e * 1) (j * down e) _ (add-sums binary64 (fin t m e) (fin false 1023 (pos 0)) tt tt) (mul-pos J (down-pos e)) (exact t s (m * up e) (v .0) (v .1) h)
+    positive-sum binary64 _ _ (down e * 1) (j * down e) _ (add-rounded binary64 (fin t m e) (fin false 1023 (pos 0)) tt tt) (mul-pos J (down-pos e)) (exact t s (m * up e) (v .0) (v .1) h)
     ∙ round-same binary64 false (j * down e) (down e * 1) j 1 (mul-pos (down-pos e) (lit< tt)) (lit< tt) (omega arith)
   where
     exact : (t s : Bool) (a : ℕ) → t ≡ s → a * 1 ≡ n * down e → P s n + 1023 ≡ j + N s n → j * down e + (N t a * 1 + 0 * down e) ≡ P t a * 1 + 1023 * 1 * down e

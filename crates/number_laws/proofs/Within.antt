@@ -17,9 +17,9 @@ use Rattle.numbers.specs.Arithmetic.{zero⁺}
 use Rattle.numbers.proofs.Sign.{neg-round}
 use Rattle.number_laws.specs.Values.{size, Den, Within, Holds, nothing, each, running}
 use Rattle.number_laws.specs.FloatLaws.{AddWithin, SubWithin, MulWithin, DivWithin, LeGivesSize, RunningWithin, SumWithin}
-use Rattle.number_laws.proofs.Order.{Pos, Neg, den-pos, fromS}
+use Rattle.number_laws.proofs.Order.{Pos, Neg, den-pos, tested→ordered}
 use Rattle.number_laws.proofs.Rounding.{sided, round-sided, is-le}
-use Rattle.number_laws.proofs.Sums.{add-sums}
+use Rattle.number_laws.proofs.Sums.{add-rounded}
 
 -- ---- a fraction not above n * 2 ^ p, rounded
 -- a value that is not negative and lies under one of size B
@@ -35,7 +35,7 @@ under B (fin false m e) nan u h k = absurd h
 under B (fin false m e) (inf t) u h k = absurd k
 under B (fin false m e) (fin true n d) u h k = absurd (true≢false (k .0))
 under B (fin false m e) (fin false n d) u h k =
-    let z : m * up e * down d + 0 ≤ n * up d * down e + 0 = fromS false (m * up e * down d) false (n * up d * down e) h in
+    let z : m * up e * down d + 0 ≤ n * up d * down e + 0 = tested→ordered false (m * up e * down d) false (n * up d * down e) h in
     let v : n * up d ≡ B * down d = sym (mul-one (n * up d)) ∙ k .1 in
     (tt, le-of-mul-le-mul-right (le-trans (plain _ _ z) (le-of-eq (ap (λ (x : ℕ). x * down e) v ∙ mul-right-comm B (down d) (down e)))) (down-pos d))
   where
@@ -70,7 +70,7 @@ parts (fin false m e) = omega arith
 
 pub add-within : AddWithin
 add-within f n n' p x y H X Y =
-    let z = add-sums f x y (X .finite-is) (Y .finite-is) in
+    let z = add-rounded f x y (X .finite-is) (Y .finite-is) in
     rw (z .rounded)
     (round-within f (z .sign) (n + n') p (z .size) (Den x * Den y) (mul-pos (den-pos x) (den-pos y)) H
     (le-trans (is-le (z .sign) (z .size) _ _ (z .is)) (le-trans (le-of-eq (gather (Pos x) (Neg x) (Den x) (Pos y) (Neg y) (Den y)))
@@ -136,9 +136,9 @@ pub le→size : LeGivesSize
 unfolding le
 le→size k nan Y h = absurd Y
 le→size k (inf s) Y h = absurd Y
-le→size k (fin true m e) Y h = absurd (lt-irrefl 0 (let z = fromS false (1 * 1 * down e) true (m * up e * 2 ^ suc k) h in let d = down-pos e in omega arith))
+le→size k (fin true m e) Y h = absurd (lt-irrefl 0 (let z = tested→ordered false (1 * 1 * down e) true (m * up e * 2 ^ suc k) h in let d = down-pos e in omega arith))
 le→size k (fin false m e) Y h =
-    let z : 1 * 1 * down e + 0 ≤ m * up e * 2 ^ suc k + 0 = fromS false (1 * 1 * down e) false (m * up e * 2 ^ suc k) h in
+    let z : 1 * 1 * down e + 0 ≤ m * up e * 2 ^ suc k + 0 = tested→ordered false (1 * 1 * down e) false (m * up e * 2 ^ suc k) h in
     omega arith
 
 -- ---- running sums: what the prefix sums, the dot product's lanes and the sum over the bands are

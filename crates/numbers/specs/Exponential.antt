@@ -18,7 +18,7 @@ limit⁻ = ofBits binary64 0xc085900000000000
 abbrev pub log2e : Float
 log2e = ofBits binary64 0x3ff71547652b82fe
 
--- hi + lo is near ln 2. hi has so few digits that k × hi is exact.
+-- 0.6931471803691238 and 1.9082149292705877e-10: hi + lo is near ln 2, and hi has so few digits that k × hi is exact.
 abbrev pub hi : Float
 hi = ofBits binary64 0x3fe62e42fee00000
 
