@@ -8,6 +8,7 @@ ghost use mathlib.Core.Logic.{_⊎_};
 ghost use mathlib.Core.Path.{_≡_};
 ghost use Rattle.numbers.specs.Root.{NearRoot, Normalised, Squared, rootOf, rootUnits};
 use crate::parts::split;
+use std::num::wrapping_sub_u64;
 
 // The square root of x: the nearest f64 to the exact root. A zero and a NaN are given back.
 pub fn root(x: f64) -> f64
@@ -81,21 +82,22 @@ fn near_root(c: u64, hi: u64, lo: u64) -> u64
     if r == 0 { bisect(hi, lo) } else { r }
 }
 
-// A number near the root of v * 2 ^ 104, for the v from 1 up to 4 of the bit pattern `bits`: three
-// of Newton's steps from the well-known first guess at 1 / √v, and a last one for √v. That it is
-// near is not proved, and nothing rests on it but time.
+// A number near the root of v * 2 ^ 104, for the v from 1 up to 4 of the bit pattern `bits`. Half
+// the pattern, taken off a constant, is that of a number near 1 / √v but for a factor; two of
+// Newton's steps, the first with constants fitted to that factor, bring it to one part in a million,
+// and a step of the third order ends at √v. That it is near is not proved, and nothing rests on it
+// but time.
 fn guess(bits: u64) -> u64
     requires { ⌜ 1023 * 2 ^ 52 ≤ bits ⌝ ∗ ⌜ bits < 1025 * 2 ^ 52 ⌝ }
     ensures { λ r. ⌜ (0 < r) × (r ≤ 2 ^ 53) ⌝ }
 {
     let v: f64 = f64::from_bits(bits);
-    let y0: f64 = f64::from_bits(0x5fe6_eb50_c7b5_37a9 - bits / 2);
-    let h: f64 = v * 0.5;
-    let y1: f64 = 1.5 * y0 - h * y0 * (y0 * y0);
-    let y2: f64 = 1.5 * y1 - h * y1 * (y1 * y1);
-    let y3: f64 = 1.5 * y2 - h * y2 * (y2 * y2);
-    let s: f64 = v * y3;
-    let r: f64 = s + 0.5 * y3 * (v - s * s);
+    let y0: f64 = f64::from_bits(0x5fec_0000_0000_0000 - bits / 2);
+    let y1: f64 = 1.18928029 * y0 - 0.248877037 * v * y0 * (y0 * y0);
+    let y2: f64 = 1.5 * y1 - 0.5 * v * y1 * (y1 * y1);
+    let s: f64 = v * y2;
+    let e: f64 = 1.0 - s * y2;
+    let r: f64 = s + s * e * (0.5 + 0.375 * e);
     if r >= 2.0 {
         return 0x20_0000_0000_0000;
     }
@@ -106,30 +108,27 @@ fn guess(bits: u64) -> u64
 }
 
 // The exact check: c, or the neighbour of c, that is the whole number nearest to the root of
-// hi * 2 ^ 54 + lo; and 0 if none of the three is. It weighs hi * 2 ^ 54 + lo - c * c, as
-// left - right, against ±c and its like, since (c + 1/2) ^ 2 is c * c + c + 1/4. The choice among
-// the three is made without a branch: a guess is off by one in one of seven.
+// n = hi * 2 ^ 54 + lo; and 0 if none of the three is. `rest` is n - c * c + 3 * c - 3: below 6 * c
+// the three are enough, and 2 * c and 4 * c part them, since (c ± 1/2) ^ 2 is c * c ± c + 1/4. The
+// differences wrap where c is far off, and are then too large. The choice among the three has no
+// branch: a guess is off by one in one of seven.
 fn polish(c: u64, hi: u64, lo: u64) -> u64
     requires { ⌜ 0 < c ⌝ ∗ ⌜ c ≤ 2 ^ 53 ⌝ ∗ ⌜ hi < 2 ^ 52 ⌝ ∗ ⌜ lo < 2 ^ 54 ⌝ }
     ensures { λ r. ⌜ (r ≡ 0) ⊎ NearRoot (hi * 2 ^ 54 + lo) r ⌝ }
 {
     let s = square(c);
-    let top: u64 = s.top;
-    if top > hi + 4 {
+    let gap: u64 = wrapping_sub_u64(hi + 8, s.top);
+    if gap > 12 {
         return 0;
     }
-    if hi > top + 4 {
+    let rest: u64 = wrapping_sub_u64(
+        gap * 0x40_0000_0000_0000 + lo + 3 * c,
+        0x200_0000_0000_0003 + s.low,
+    );
+    if rest >= 6 * c {
         return 0;
     }
-    let left: u64 = (hi + 4 - top) * 0x40_0000_0000_0000 + lo;
-    let right: u64 = 0x100_0000_0000_0000 + s.low;
-    if left > right + 3 * c + 2 {
-        return 0;
-    }
-    if right + 2 >= left + 3 * c {
-        return 0;
-    }
-    c + one_if_above(left, right + c) - one_if_above(right + 1, left + c)
+    c + one_if_above(rest + 3, 4 * c) - one_if_above(2 * c + 1, rest + 3)
 }
 
 // 1 where a is above b, else 0.

@@ -1,7 +1,7 @@
 -- The whole number nearest to a root. Assumes nothing.
 use mathlib.Core.Path.{_≡_, refl, sym, ap, _∙_, subst}
 use Prim.Native.Nat.{ℕ, zero, suc, _+_, _-_, _*_, _/_, _%_, _^_, _≤_, _<_}
-use native.Mathlib.Nat.{le-trans, le-antisymm, lt-of-not-le, not-le-of-lt, mul-le-mul, add-le-add, div-add-mod', pow-succ', le-of-suc-le-suc, lt-irrefl}
+use native.Mathlib.Nat.{le-trans, le-antisymm, lt-of-not-le, not-le-of-lt, mul-le-mul, add-le-add, div-add-mod', pow-succ', le-of-suc-le-suc, mod-eq-of-lt, lt-irrefl}
 use native.Mathlib.Omega.{arith}
 use mathlib.Core.Bool.{Bool, true, false, not, cond}
 use lib.Dec.{T, leb, ltb, leb→le, nleb→lt, ltb→lt, nltb→le}
@@ -113,51 +113,49 @@ narrowed-down n a b l w p q = subst (λ (x : ℕ). NearRoot n x) (next a b l w) 
     up : (m x : ℕ) → x * x + x < m → suc x * suc x < m + suc x
     up m x h = omega arith
 
--- ---- the candidate and its neighbours. q is c * c
-module _ (q t l hi lo : ℕ) (is : t * 18014398509481984 + l ≡ q) (near : t ≤ hi + 4) where
-  abbrev pub L : ℕ
-  L = (hi + 4 - t) * 18014398509481984 + lo
+-- ---- the candidate and its neighbours, by what is left of n: w is n - c * c + 3 * c - 3
+-- one more where the root lies above c + 1/2, one less where it lies below c - 1/2
+pub mended : (n c w u d : ℕ) → 0 < c → n + 3 * c ≡ c * c + 3 + w → w < 6 * c → u ≡ cond (ltb (4 * c) (w + 3)) 1 0 → d ≡ cond (ltb (w + 3) (2 * c + 1)) 1 0 → (d ≤ c + u) × NearRoot n (c + u - d)
+mended n zero w u d P e l eu ed = absurd (lt-irrefl 0 P)
+mended n (suc c) w u d P e l eu ed = go (ltb (4 * suc c) (w + 3)) (ltb→lt (4 * suc c) (w + 3)) (nltb→le (4 * suc c) (w + 3)) (ltb (w + 3) (2 * suc c + 1)) (ltb→lt (w + 3) (2 * suc c + 1)) (nltb→le (w + 3) (2 * suc c + 1)) eu ed
+  where
+    over : 4 * suc c < w + 3 → NearRoot n (suc c + 1)
+    over h = record { above = omega arith; below = omega arith }
 
-  abbrev pub R : ℕ
-  R = 72057594037927936 + l
+    under : w + 3 < 2 * suc c + 1 → NearRoot n c
+    under h = record { above = omega arith; below = omega arith }
 
-  abbrev pub N : ℕ
-  N = hi * 18014398509481984 + lo
+    itself : w + 3 ≤ 4 * suc c → 2 * suc c + 1 ≤ w + 3 → NearRoot n (suc c)
+    itself h k = record { above = omega arith; below = omega arith }
 
-  itself : (c : ℕ) → q ≡ c * c → L ≤ R + c → R < L + c → NearRoot N c
-  itself c e h k = record { above = omega arith; below = omega arith }
+    go : (x : Bool) → (T x → 4 * suc c < w + 3) → (T (not x) → w + 3 ≤ 4 * suc c) → (y : Bool) → (T y → w + 3 < 2 * suc c + 1) → (T (not y) → 2 * suc c + 1 ≤ w + 3) → u ≡ cond x 1 0 → d ≡ cond y 1 0 → (d ≤ suc c + u) × NearRoot n (suc c + u - d)
+    go true a b true a' b' r s = absurd (both w c (a tt) (a' tt))
+      where
+        both : (w c : ℕ) → 4 * suc c < w + 3 → w + 3 < 2 * suc c + 1 → ⊥
+        both w c g i = omega arith
+    go true a b false a' b' r s = (omega arith, subst (λ (z : ℕ). NearRoot n z) (at u d c r s) (over (a tt)))
+      where
+        at : (u d c : ℕ) → u ≡ 1 → d ≡ 0 → suc c + 1 ≡ suc c + u - d
+        at u d c f g = omega arith
+    go false a b true a' b' r s = (omega arith, subst (λ (z : ℕ). NearRoot n z) (at u d c r s) (under (a' tt)))
+      where
+        at : (u d c : ℕ) → u ≡ 0 → d ≡ 1 → c ≡ suc c + u - d
+        at u d c f g = omega arith
+    go false a b false a' b' r s = (omega arith, subst (λ (z : ℕ). NearRoot n z) (at u d c r s) (itself (b tt) (b' tt)))
+      where
+        at : (u d c : ℕ) → u ≡ 0 → d ≡ 0 → suc c ≡ suc c + u - d
+        at u d c f g = omega arith
 
-  under : (d : ℕ) → q ≡ suc d * suc d → L + suc d ≤ R → R + 2 < L + 3 * suc d → NearRoot N d
-  under d e h k = record { above = omega arith; below = omega arith }
+-- what the code's two wrapped differences are, where they pass their tests
+pub unwrapped : (q t l hi lo c g w : ℕ) → t * 2 ^ 54 + l ≡ q → l < 2 ^ 55 → t ≤ 2 ^ 53 → hi < 2 ^ 52 → lo < 2 ^ 54 → c ≤ 2 ^ 53 → (g + t) % 2 ^ 64 ≡ hi + 8 → g ≤ 12
+    → (w + (144115188075855875 + l)) % 2 ^ 64 ≡ g * 18014398509481984 + lo + 3 * c → w < 6 * c → hi * 2 ^ 54 + lo + 3 * c ≡ q + 3 + w
+unwrapped q t l hi lo c g w e a b h k m x gl y wl =
+    let x' : g + t ≡ hi + 8 = sym (mod-eq-of-lt (first g t gl b)) ∙ x in
+    let y' : w + (144115188075855875 + l) ≡ g * 18014398509481984 + lo + 3 * c = sym (mod-eq-of-lt (second w l c wl m a)) ∙ y in
+    omega arith
+  where
+    first : (g t : ℕ) → g ≤ 12 → t ≤ 9007199254740992 → g + t < 18446744073709551616
+    first g t p r = omega arith
 
-  over : (c : ℕ) → q ≡ c * c → R + c < L → L ≤ R + 3 * c + 2 → NearRoot N (c + 1)
-  over c e h k = record { above = omega arith; below = omega arith }
-
-  -- one more where the root lies above c + 1/2, one less where it lies below c - 1/2
-  pub mended : (c u d : ℕ) → 0 < c → q ≡ c * c → u ≡ cond (ltb (R + c) L) 1 0 → d ≡ cond (ltb (L + c) (R + 1)) 1 0 → L ≤ R + 3 * c + 2 → R + 2 < L + 3 * c → (d ≤ c + u) × NearRoot N (c + u - d)
-  mended zero u d P e eu ed h k = absurd (lt-irrefl 0 P)
-  mended (suc c) u d P e eu ed h k = go (ltb (R + suc c) L) (ltb→lt (R + suc c) L) (nltb→le (R + suc c) L) (ltb (L + suc c) (R + 1)) (ltb→lt (L + suc c) (R + 1)) (nltb→le (L + suc c) (R + 1)) eu ed
-    where
-      go : (x : Bool) → (T x → R + suc c < L) → (T (not x) → L ≤ R + suc c) → (y : Bool) → (T y → L + suc c < R + 1) → (T (not y) → R + 1 ≤ L + suc c) → u ≡ cond x 1 0 → d ≡ cond y 1 0 → (d ≤ suc c + u) × NearRoot N (suc c + u - d)
-      go true a b true a' b' r s = absurd (both L R c (a tt) (a' tt))
-        where
-          both : (l r c : ℕ) → r + suc c < l → l + suc c < r + 1 → ⊥
-          both l r c g i = omega arith
-      go true a b false a' b' r s = (omega arith, subst (λ (z : ℕ). NearRoot N z) (at u d c r s) (over (suc c) e (a tt) h))
-        where
-          at : (u d c : ℕ) → u ≡ 1 → d ≡ 0 → suc c + 1 ≡ suc c + u - d
-          at u d c f g = omega arith
-      go false a b true a' b' r s = (omega arith, subst (λ (z : ℕ). NearRoot N z) (at u d c r s) (under c e (low L R c (a' tt)) k))
-        where
-          at : (u d c : ℕ) → u ≡ 0 → d ≡ 1 → c ≡ suc c + u - d
-          at u d c f g = omega arith
-
-          low : (l r c : ℕ) → l + suc c < r + 1 → l + suc c ≤ r
-          low l r c g = omega arith
-      go false a b false a' b' r s = (omega arith, subst (λ (z : ℕ). NearRoot N z) (at u d c r s) (itself (suc c) e (b tt) (high L R c (b' tt))))
-        where
-          at : (u d c : ℕ) → u ≡ 0 → d ≡ 0 → suc c ≡ suc c + u - d
-          at u d c f g = omega arith
-
-          high : (l r c : ℕ) → r + 1 ≤ l + suc c → r < l + suc c
-          high l r c g = omega arith
+    second : (w l c : ℕ) → w < 6 * c → c ≤ 9007199254740992 → l < 36028797018963968 → w + (144115188075855875 + l) < 18446744073709551616
+    second w l c p r s = omega arith

@@ -10,7 +10,7 @@ float-from-bits-v : tie.Need-float-from-bits-v
 float-from-bits-v c = no-nan-bits (c .args .bits) (omega arith)
 
 float-from-bits-y0 : tie.Need-float-from-bits-y0
-float-from-bits-y0 c = no-nan-bits (0x5fe6_eb50_c7b5_37a9 - c .args .bits / 2) (omega arith)
+float-from-bits-y0 c = no-nan-bits (0x5fec_0000_0000_0000 - c .args .bits / 2) (omega arith)
 
 float-to-bits-result : tie.Need-float-to-bits-result
 float-to-bits-result c = le-no-nan _ _ (c .if2 .taken)
