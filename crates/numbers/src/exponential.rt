@@ -2,20 +2,30 @@
 ghost use mathlib.Core.Path.{_≡_};
 ghost use Rattle.numbers.specs.Arithmetic.{one};
 ghost use Rattle.numbers.specs.Exponential.{expOf, expSeries, tenTo, twoTo};
+use crate::constants::HI;
+use crate::constants::LN_10;
+use crate::constants::LO;
+use crate::parts::LEADING;
 use crate::whole::round;
+
+// Beyond it, on either side, E is 0 or plus infinity.
+const LIMIT: f64 = 690.0;
+
+// 1 / ln 2.
+const LOG2_E: f64 = 1.4426950408889634;
 
 // E(x): 0 below -690, plus infinity above 690.
 pub fn exp(x: f64) -> f64
     ensures { λ r. ⌜ r ≡ expOf x ⌝ }
 {
-    if x < -690.0 {
+    if x < -LIMIT {
         return 0.0;
     }
-    if x > 690.0 {
+    if x > LIMIT {
         return 1.0 / 0.0;
     }
-    let k: f64 = round(x * 1.4426950408889634);
-    let r: f64 = x - k * 0.693147180369123816490 - k * 1.90821492927058770002e-10;
+    let k: f64 = round(x * LOG2_E);
+    let r: f64 = x - k * HI - k * LO;
     exp_series(r) * two_to(k)
 }
 
@@ -23,7 +33,7 @@ pub fn exp(x: f64) -> f64
 pub fn ten_to(y: f64) -> f64
     ensures { λ r. ⌜ r ≡ tenTo y ⌝ }
 {
-    exp(y * 2.302585092994046)
+    exp(y * LN_10)
 }
 
 // p = 1 + (r * p) / n, from p = 1, for n from 13 down to 1.
@@ -46,7 +56,7 @@ fn two_to(k: f64) -> f64
     let field: f64 = k + 1023.0;
     if field >= 1.0 {
         if field <= 2046.0 {
-            return f64::from_bits(std::num::truncating_f64_to_u64(field) * 0x10_0000_0000_0000);
+            return f64::from_bits(std::num::truncating_f64_to_u64(field) * LEADING);
         }
         return 0.0 / 0.0;
     }

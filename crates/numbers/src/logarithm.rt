@@ -3,19 +3,32 @@
 ghost use mathlib.Core.Path.{_≡_};
 ghost use Rattle.numbers.specs.Arithmetic.{zero⁺};
 ghost use Rattle.numbers.specs.Logarithm.{log10Of, log1pOf, logAt, logOf, logSeries, logTwice};
+use crate::constants::HI;
+use crate::constants::LN_10;
+use crate::constants::LO;
 use crate::float::widen;
 use crate::narrow::narrow;
+use crate::parts::LEADING;
+
+// The bit pattern of 1.0: its exponent's field alone.
+const ONE: u64 = 1023 * LEADING;
+
+// 2 ^ -1022.
+const SMALLEST_NORMAL: f64 = 2.2250738585072014e-308;
+
+// Above it m is halved, so that it stays near 1.
+const SQRT_2: f64 = 1.4142135623730951;
 
 // L(v), for a positive normal v or plus infinity. A NaN for others.
 pub fn ln(v: f64) -> f64
     ensures { λ y. ⌜ y ≡ logOf v ⌝ }
 {
-    if v >= 2.2250738585072014e-308 {
+    if v >= SMALLEST_NORMAL {
         if v < 1.0 / 0.0 {
             let bits: u64 = f64::to_bits(v);
-            let m: f64 = f64::from_bits(bits % 0x10_0000_0000_0000 + 0x3ff0_0000_0000_0000);
-            let e: f64 = (bits / 0x10_0000_0000_0000) as f64 - 1023.0;
-            if m > 1.4142135623730951 {
+            let m: f64 = f64::from_bits(bits % LEADING + ONE);
+            let e: f64 = (bits / LEADING) as f64 - 1023.0;
+            if m > SQRT_2 {
                 return log_at(m * 0.5, e + 1.0);
             }
             return log_at(m, e);
@@ -41,7 +54,7 @@ pub fn ln_1p(w: f32) -> f32
 pub fn log10(v: f64) -> f64
     ensures { λ y. ⌜ y ≡ log10Of v ⌝ }
 {
-    ln(v) / 2.302585092994046
+    ln(v) / LN_10
 }
 
 // L of m * 2 ^ e, with m near 1.
@@ -49,7 +62,7 @@ fn log_at(m: f64, e: f64) -> f64
     ensures { λ y. ⌜ y ≡ logAt m e ⌝ }
 {
     let t: f64 = log_twice((m - 1.0) / (m + 1.0));
-    e * 0.693147180369123816490 + (e * 1.90821492927058770002e-10 + t)
+    e * HI + (e * LO + t)
 }
 
 // 2 * (s * q): the logarithm of (1 + s) / (1 - s).

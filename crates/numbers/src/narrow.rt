@@ -7,7 +7,31 @@ ghost use mathlib.Core.Bool.{cond};
 ghost use mathlib.Core.Path.{_≡_};
 ghost use Rattle.numbers.specs.Narrow.{Dropped, nearestF32};
 use crate::float::is_finite;
+use crate::parts::WHOLE;
 use crate::parts::split;
+
+// An f64 has 53 digits and an f32 24, so this many are left off.
+const EXCESS: u64 = 53 - 24;
+
+// A unit of 2 ^ -1074, the smallest f64, is 2 ^ 925 times finer than one of 2 ^ -149, the smallest
+// f32.
+const FINER: u64 = WHOLE - 149;
+
+// 2 ^ 23, the weight of an f32's exponent field; and the pattern of plus infinity, whose field is 255.
+const FIELD: u64 = 0x80_0000;
+
+const INFINITY: u64 = 255 * FIELD;
+
+// The most digits that a finite f32 leaves off in units of 2 ^ -149: its field has 1 more.
+const MOST: u64 = 253;
+
+// The exponents of a 53-digit significand whose f32 is normal, but for a carry into infinity.
+const LEAST_NORMAL: u64 = FINER - EXCESS;
+
+const LAST_NORMAL: u64 = LEAST_NORMAL + MOST;
+
+// How many digits reach from 2 ^ -1074 up to the 24 that an f32 keeps.
+const KEPT: u64 = FINER + 24;
 
 // The f32 nearest to x, a tie to the one whose last digit is even.
 pub fn narrow(x: f64) -> f32
@@ -32,9 +56,9 @@ fn narrow_bits(minus: bool, sig: u64, exp: u64) -> u64
     requires { ⌜ sig < 2 ^ 53 ⌝ ∗ ⌜ exp ≤ 2045 ⌝ ∗ ⌜ (0 < exp → 2 ^ 52 ≤ sig) ⌝ }
     ensures { λ r. ⌜ r ≡ toBits binary32 (round binary32 minus (sig * 2 ^ exp) (2 ^ 1074)) ⌝ }
 {
-    if exp >= 896 {
-        if exp < 1150 {
-            return sign_bit(minus) + ((exp - 896) * 0x80_0000 + nearest(sig, 29));
+    if exp >= LEAST_NORMAL {
+        if exp <= LAST_NORMAL {
+            return sign_bit(minus) + ((exp - LEAST_NORMAL) * FIELD + nearest(sig, EXCESS));
         }
     }
     any_bits(minus, sig, exp)
@@ -47,14 +71,14 @@ fn any_bits(minus: bool, sig: u64, exp: u64) -> u64
 {
     let drop: u64 = dropped(sig, exp);
     let sign: u64 = sign_bit(minus);
-    if drop > 253 {
-        return sign + 0x7f80_0000;
+    if drop > MOST {
+        return sign + INFINITY;
     }
-    let gap: u64 = 925 + drop - exp;
+    let gap: u64 = FINER + drop - exp;
     if gap > 63 {
-        return sign + drop * 0x80_0000;
+        return sign + drop * FIELD;
     }
-    sign + (drop * 0x80_0000 + nearest(sig, gap))
+    sign + (drop * FIELD + nearest(sig, gap))
 }
 
 // How many binary digits the nearest f32 of sig * 2 ^ (exp - 1074) leaves off, counted in units of
@@ -64,8 +88,8 @@ fn dropped(sig: u64, exp: u64) -> u64
     ensures { λ r. ⌜ Dropped sig exp r ⌝ }
 {
     let digits: u64 = 64 - (u64::leading_zeros(sig) as u64);
-    if exp + digits > 949 {
-        exp + digits - 949
+    if exp + digits > KEPT {
+        exp + digits - KEPT
     } else {
         0
     }

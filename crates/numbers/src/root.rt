@@ -7,6 +7,7 @@ ghost use mathlib.Core.Bool.{cond, false, true};
 ghost use mathlib.Core.Logic.{_⊎_};
 ghost use mathlib.Core.Path.{_≡_};
 ghost use Rattle.numbers.specs.Root.{NearRoot, Normalised, Squared, rootOf, rootUnits};
+use crate::parts::LEADING;
 use crate::parts::split;
 use std::num::wrapping_sub_u64;
 
@@ -27,6 +28,19 @@ pub fn root(x: f64) -> f64
     x
 }
 
+// What half the exponent of the number under the root lacks of the root's own: (1074 - 2 * 52) / 2,
+// since in units of 2 ^ -1074 the root of n is that of n * 2 ^ 1074, and both have 52 digits after
+// the leading one.
+const HALF_BIAS: u64 = 485;
+
+// 2 ^ 53, the first number of 54 digits: the most that the nearest whole number to a root can be.
+const CARRIED: u64 = 2 * LEADING;
+
+// 2 ^ 54 and 2 ^ 27: a number below 2 ^ 108 in two parts, and one below 2 ^ 54.
+const PART: u64 = 0x40_0000_0000_0000;
+
+const HALF: u64 = 0x800_0000;
+
 // The bit pattern of the root of sig * 2 ^ exp units of 2 ^ -1074.
 fn root_bits(sig: u64, exp: u64) -> u64
     requires { ⌜ 0 < sig ⌝ ∗ ⌜ sig < 2 ^ 53 ⌝ ∗ ⌜ exp ≤ 2045 ⌝ }
@@ -34,7 +48,7 @@ fn root_bits(sig: u64, exp: u64) -> u64
 {
     let n = normalise(sig, exp);
     let c: u64 = root_digits(n.full, n.scale % 2);
-    (n.scale / 2 + 485) * 0x10_0000_0000_0000 + c
+    (n.scale / 2 + HALF_BIAS) * LEADING + c
 }
 
 // A significand of 53 digits, and the exponent that its leading digit has in units of 2 ^ -1074.
@@ -49,7 +63,7 @@ fn normalise(sig: u64, exp: u64) -> Normal
     requires { ⌜ 0 < sig ⌝ ∗ ⌜ sig < 2 ^ 53 ⌝ ∗ ⌜ exp ≤ 2045 ⌝ }
     ensures { λ r. ⌜ Normalised sig exp (r .full) (r .scale) ⌝ }
 {
-    if sig >= 0x10_0000_0000_0000 {
+    if sig >= LEADING {
         return Normal {
             full: sig,
             scale: exp + 52,
@@ -69,8 +83,8 @@ fn root_digits(full: u64, odd: u64) -> u64
     ensures { λ r. ⌜ NearRoot (full * 2 ^ (52 + odd)) r ⌝ }
 {
     let wide: u64 = full << odd;
-    let c: u64 = guess(0x3fe0_0000_0000_0000 + odd * 0x10_0000_0000_0000 + full);
-    near_root(c, wide / 4, wide % 4 * 0x10_0000_0000_0000)
+    let c: u64 = guess(0x3fe0_0000_0000_0000 + odd * LEADING + full);
+    near_root(c, wide / 4, wide % 4 * LEADING)
 }
 
 // The whole number nearest to the root of hi * 2 ^ 54 + lo, from a guess c.
@@ -99,13 +113,16 @@ fn guess(bits: u64) -> u64
     let e: f64 = 1.0 - s * y2;
     let r: f64 = s + s * e * (0.5 + 0.375 * e);
     if r >= 2.0 {
-        return 0x20_0000_0000_0000;
+        return CARRIED;
     }
     if r >= 1.0 {
-        return f64::to_bits(r) % 0x10_0000_0000_0000 + 0x10_0000_0000_0000;
+        return f64::to_bits(r) % LEADING + LEADING;
     }
-    0x10_0000_0000_0000
+    LEADING
 }
+
+// What `polish` takes off: the 8 that it added to the upper part, and 3.
+const BIAS: u64 = 8 * PART + 3;
 
 // The exact check: c, or the neighbour of c, that is the whole number nearest to the root of
 // n = hi * 2 ^ 54 + lo; and 0 if none of the three is. `rest` is n - c * c + 3 * c - 3: below 6 * c
@@ -121,10 +138,7 @@ fn polish(c: u64, hi: u64, lo: u64) -> u64
     if gap > 12 {
         return 0;
     }
-    let rest: u64 = wrapping_sub_u64(
-        gap * 0x40_0000_0000_0000 + lo + 3 * c,
-        0x200_0000_0000_0003 + s.low,
-    );
+    let rest: u64 = wrapping_sub_u64(gap * PART + lo + 3 * c, BIAS + s.low);
     if rest >= 6 * c {
         return 0;
     }
@@ -144,7 +158,7 @@ fn bisect(hi: u64, lo: u64) -> u64
     ensures { λ r. ⌜ NearRoot (hi * 2 ^ 54 + lo) r ⌝ }
 {
     let mut a: u64 = 0;
-    let mut b: u64 = 0x20_0000_0000_0000;
+    let mut b: u64 = CARRIED;
     while b - a > 1 {
         let m: u64 = a + (b - a) / 2;
         if falls_short(m, hi, lo) {
@@ -163,8 +177,8 @@ fn falls_short(c: u64, hi: u64, lo: u64) -> bool
 {
     let s = square(c);
     let low: u64 = s.low + c;
-    let top: u64 = s.top + low / 0x40_0000_0000_0000;
-    let rest: u64 = low % 0x40_0000_0000_0000;
+    let top: u64 = s.top + low / PART;
+    let rest: u64 = low % PART;
     if top < hi {
         return true;
     }
@@ -188,10 +202,10 @@ fn square(c: u64) -> Halves
     requires { ⌜ c ≤ 2 ^ 53 ⌝ }
     ensures { λ r. ⌜ Squared c (r .top) (r .low) ⌝ }
 {
-    let h: u64 = c / 0x800_0000;
-    let l: u64 = c % 0x800_0000;
+    let h: u64 = c / HALF;
+    let l: u64 = c % HALF;
     let mid: u64 = 2 * (h * l);
-    let low: u64 = mid % 0x800_0000 * 0x800_0000 + l * l;
-    let top: u64 = h * h + mid / 0x800_0000;
+    let low: u64 = mid % HALF * HALF + l * l;
+    let top: u64 = h * h + mid / HALF;
     Halves { top, low }
 }

@@ -5,6 +5,7 @@ ghost use lib.Ieee.{binary64, round};
 ghost use mathlib.Core.Path.{_≡_};
 ghost use Rattle.numbers.specs.Whole.{halfUp, upward, wholeAbove, wholeBelow, wholeNearest};
 use crate::float::is_finite;
+use crate::parts::WHOLE;
 use crate::parts::split;
 
 // x to the nearest whole number, a half away from zero.
@@ -13,8 +14,8 @@ pub fn round(x: f64) -> f64
 {
     if is_finite(x) {
         let p = split(x);
-        if p.exp < 1074 {
-            return signed(p.minus, half_up(p.sig, 1074 - p.exp));
+        if p.exp < WHOLE {
+            return signed(p.minus, half_up(p.sig, WHOLE - p.exp));
         }
     }
     x
@@ -26,11 +27,11 @@ pub fn floor(x: f64) -> f64
 {
     if is_finite(x) {
         let p = split(x);
-        if p.exp < 1074 {
+        if p.exp < WHOLE {
             if p.minus {
-                return signed(p.minus, cut_up(p.sig, 1074 - p.exp));
+                return signed(p.minus, cut_up(p.sig, WHOLE - p.exp));
             }
-            return signed(p.minus, cut(p.sig, 1074 - p.exp));
+            return signed(p.minus, cut(p.sig, WHOLE - p.exp));
         }
     }
     x

@@ -19,7 +19,7 @@ gap-is sig exp k h e = e ∙ ap (λ (g : ℕ). closest sig (2 ^ g)) (at exp h)
 some : (e : ℕ) → 896 ≤ e → 0 < e
 some e h = omega arith
 
-most : (e : ℕ) → e < 1150 → e - 896 ≤ 253
+most : (e : ℕ) → e ≤ 1149 → e - 896 ≤ 253
 most e h = omega arith
 
 add-result : tie.Need-add-result
