@@ -7,7 +7,7 @@ use mathlib.Core.Bool.{Bool, true, false, not, cond, false≢true}
 use lib.IntN.{ℤ, pos, negsuc}
 use lib.Dec.{T, lit<, eqb·suc-zero, eqb}
 use lib.Pow.{pow-add, pow-pos}
-use lib.Ieee.{Float, nan, inf, fin, binary64, up, down, round, neg, fits, le, ofBits}
+use lib.Ieee.{Float, add, nan, inf, fin, binary64, up, down, round, neg, fits, le, ofBits}
 use lib.Ieee.Fits.{down-pos, round-fits, neg-fits}
 use lib.Ieee.Exact.{HasValue, round-exact}
 use lib.Ieee.Back.{round-whole, whole-unique}
@@ -17,7 +17,7 @@ use Rattle.numbers.specs.Whole.{halfUp, upward, wholeNearest, wholeBelow, whole
 use Rattle.numbers.proofs.Sign.{neg-neg}
 use Rattle.numbers.proofs.whole.Fractions.{above-is}
 use Rattle.number_laws.specs.Values.{Number, Monotone}
-use Rattle.number_laws.specs.WholeLaws.{Nearest, Cut, Raised, RoundsTo, FloorsTo, CeilsTo, WholeFrom, ToWhole, RoundLaws, FloorLaws, CeilLaws, FloorLargest, CeilSmallest, MinusZero}
+use Rattle.number_laws.specs.WholeLaws.{Nearest, Cut, Raised, RoundsTo, FloorsTo, CeilsTo, WholeFrom, ToWhole, RoundLaws, FloorLaws, CeilLaws, FloorLargest, CeilSmallest, MinusZero, NotFloorOfSum}
 use Rattle.number_laws.proofs.Order.{P, N, le→below, below→le, monotone-of-finite, neg-le, neg-finite}
 use Rattle.number_laws.proofs.Rounding.{signed-mono, round-sided, sided-number, is-own}
 use Rattle.number_laws.proofs.Placed.{fits-few, fits-under}
@@ -264,7 +264,11 @@ ceil-smallest x F X =
     neg-value (inf u) t k v = absurd v
     neg-value (fin u n d) t k v = unfold neg in (ap not (v .0), v .1)
 
--- ---- -0.4
+-- ---- the two examples
 pub minus-zero : MinusZero
 unfolding wholeNearest wholeAbove round ofBits
 minus-zero = record { rounded = refl; ceiling = refl }
+
+pub not-floor-of-sum : NotFloorOfSum
+unfolding wholeNearest wholeBelow round ofBits add
+not-floor-of-sum = record { rounded = refl; floor-of-sum = refl }

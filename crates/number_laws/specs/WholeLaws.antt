@@ -8,6 +8,8 @@ use lib.Dec.{T}
 use lib.Ieee.{Float, fin, binary64, up, down, le, fits, ofBits}
 use lib.Ieee.Exact.{HasValue}
 use lib.Ieee.Scale.{finite}
+use Rattle.numbers.specs.Arithmetic.{_⊕_, zero⁺, one}
+use Rattle.numbers.specs.Logarithm.{half}
 use Rattle.numbers.specs.Whole.{wholeNearest, wholeBelow, wholeAbove}
 use Rattle.number_laws.specs.Values.{Monotone}
 
@@ -80,11 +82,19 @@ FloorLargest = (x : Float) → T (fits binary64 x) → T (finite x) → LargestB
 abbrev pub CeilSmallest : Type 0
 CeilSmallest = (x : Float) → T (fits binary64 x) → T (finite x) → SmallestAbove x (wholeAbove x)
 
--- ---- an example: -0.4 rounds to -0.0, and so does its ceiling
--- -0.4
+-- ---- two examples
+-- -0.4 rounds to -0.0, and so does its ceiling.
 abbrev pub minusTwoFifths : Float
 minusTwoFifths = ofBits binary64 0xbfd999999999999a
 
 pub record MinusZero : Type 0 where
   pub rounded : wholeNearest minusTwoFifths ≡ fin true 0 (pos 0)
   pub ceiling : wholeAbove minusTwoFifths ≡ fin true 0 (pos 0)
+
+-- 0.49999999999999994, the last f64 below a half, rounds to 0. The f64 sum of it and 0.5 is 1, so floor(x + 0.5) is another function.
+abbrev pub underHalf : Float
+underHalf = ofBits binary64 0x3fdfffffffffffff
+
+pub record NotFloorOfSum : Type 0 where
+  pub rounded : wholeNearest underHalf ≡ zero⁺
+  pub floor-of-sum : wholeBelow (underHalf ⊕ half) ≡ one
