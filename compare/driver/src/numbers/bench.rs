@@ -13,13 +13,13 @@ use std::time::Instant;
 /// Too many for branches to be learnt by heart, few enough to stay in the cache.
 const INPUTS: u64 = 1 << 14;
 const REPEATS: usize = 51;
-/// Other work on the machine only adds time, and comes and goes within seconds. So the functions
-/// are measured in rounds, and the least of a function's medians counts.
-const ROUNDS: usize = 15;
+/// Rounds differ by more than the repeats in one do. So the table has the least median of each
+/// side, and beside it how the throughputs' ratio lay in the rounds.
+const ROUNDS: usize = 31;
 
 const HEAD: &str = "\
-| function | beside | latency, ours | Rust's | ratio | throughput, ours | Rust's | ratio |
-|---|---|---|---|---|---|---|---|
+| function | beside | latency, ours | Rust's | ratio | throughput, ours | Rust's | ratio | ratio in the rounds: least, median, most |
+|---|---|---|---|---|---|---|---|---|
 ";
 
 /// The table for docs/BENCHMARKS.md. A latency is that of a call whose input waits for the answer
@@ -29,7 +29,7 @@ pub fn table() -> String {
     let mut least = round();
     for _ in 1..ROUNDS {
         for (row, again) in least.iter_mut().zip(round()) {
-            row.keep_least(&again);
+            row.add(again);
         }
     }
     let empty = least.pop().map_or(Times::LONGEST, |row| row.ours);
@@ -101,11 +101,13 @@ fn row<A: Value, B: Value>(
     theirs: impl Fn(A) -> B,
 ) -> Row {
     let [ours, theirs] = measure(inputs, &ours, &theirs);
+    let ratios = vec![ours.throughput / theirs.throughput];
     Row {
         name,
         beside,
         ours,
         theirs,
+        ratios,
     }
 }
 
@@ -115,29 +117,32 @@ struct Row {
     beside: &'static str,
     ours: Times,
     theirs: Times,
+    /// Of the throughputs, one a round.
+    ratios: Vec<f64>,
 }
 
 impl Row {
-    fn keep_least(&mut self, again: &Row) {
+    fn add(&mut self, again: Row) {
         self.ours = self.ours.least(again.ours);
         self.theirs = self.theirs.least(again.theirs);
+        self.ratios.extend(again.ratios);
     }
 
     fn line(&self) -> String {
-        let Row {
-            name,
-            beside,
-            ours,
-            theirs,
-        } = self;
+        let (name, beside, ours, theirs) = (self.name, self.beside, self.ours, self.theirs);
+        let mut ratios = self.ratios.clone();
+        ratios.sort_by(f64::total_cmp);
         format!(
-            "| {name} | {beside} | {:.1} | {:.1} | {:.2} | {:.1} | {:.1} | {:.2} |\n",
+            "| {name} | {beside} | {:.1} | {:.1} | {:.2} | {:.1} | {:.1} | {:.2} | {:.2}, {:.2}, {:.2} |\n",
             ours.latency,
             theirs.latency,
             ours.latency / theirs.latency,
             ours.throughput,
             theirs.throughput,
             ours.throughput / theirs.throughput,
+            ratios[0],
+            ratios[ratios.len() / 2],
+            ratios[ratios.len() - 1],
         )
     }
 }
