@@ -28,6 +28,10 @@ impl Effort {
         }
     }
 
+    pub fn threads(self) -> usize {
+        self.threads
+    }
+
     pub fn pick<T>(self, quick: T, full: T) -> T {
         if self.quick {
             quick

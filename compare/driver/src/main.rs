@@ -2,6 +2,7 @@
 
 mod compare;
 mod family;
+mod matcher;
 mod numbers;
 mod progress;
 mod value;
@@ -11,7 +12,7 @@ use std::io::Write;
 use std::process::ExitCode;
 use std::{env, io};
 
-const USAGE: &str = "usage: run [--quick | --bench | --list | --samples]";
+const USAGE: &str = "usage: run [--quick | --bench | --list | --matcher-list | --samples]";
 
 fn main() -> ExitCode {
     let words: Vec<String> = env::args().skip(1).collect();
@@ -19,8 +20,9 @@ fn main() -> ExitCode {
     match words[..] {
         [] => verdict(check(Effort::full())),
         ["--quick"] => verdict(check(Effort::QUICK)),
-        ["--bench"] => print(&numbers::bench::table()),
+        ["--bench"] => print(&(numbers::bench::table() + "\n" + &matcher::bench::table())),
         ["--list"] => print(&numbers::list::lines()),
+        ["--matcher-list"] => print(&matcher::list::lines()),
         ["--samples"] => print(&numbers::samples::lines()),
         _ => {
             eprintln!("{USAGE}");
@@ -31,7 +33,10 @@ fn main() -> ExitCode {
 
 /// Every part of the port beside the Rust's.
 fn check(effort: Effort) -> bool {
-    let parts = [numbers::check::check(effort)];
+    let parts = [
+        numbers::check::check(effort),
+        matcher::check::check(effort),
+    ];
     parts.into_iter().all(|same| same)
 }
 

@@ -11,6 +11,7 @@ pub mod Multiples
 pub mod Nearest
 pub mod RootLaws
 pub mod WholeLaws
+pub mod CountLaws
 pub mod TwoTo
 pub mod ExpReduced
 pub mod ExpLaws

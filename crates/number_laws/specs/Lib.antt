@@ -4,6 +4,7 @@ pub mod FloatLaws
 pub mod Nearest
 pub mod RootLaws
 pub mod WholeLaws
+pub mod CountLaws
 pub mod ExpLaws
 pub mod LogLaws
 pub mod Figures

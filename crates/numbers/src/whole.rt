@@ -3,6 +3,7 @@
 ghost use Prim.Native.Nat.{_/_, _^_, _<_, _≤_};
 ghost use lib.Ieee.{binary64, round};
 ghost use mathlib.Core.Path.{_≡_};
+ghost use Rattle.numbers.specs.Arithmetic.{countOf};
 ghost use Rattle.numbers.specs.Whole.{halfUp, upward, wholeAbove, wholeBelow, wholeNearest};
 use crate::float::is_finite;
 use crate::parts::WHOLE;
@@ -42,6 +43,19 @@ pub fn ceil(x: f64) -> f64
     ensures { λ r. ⌜ r ≡ wholeAbove x ⌝ }
 {
     -floor(-x)
+}
+
+// x without its fraction, brought to the nearest end of the range where it lies outside; 0 of a NaN.
+pub fn count(x: f64) -> usize
+    ensures { λ r. ⌜ r ≡ countOf x ⌝ }
+{
+    if x >= 1.0 {
+        if x < 18446744073709551616.0 {
+            return std::num::truncating_f64_to_u64(x) as usize;
+        }
+        return 18446744073709551615;
+    }
+    0
 }
 
 // ±mag as a float. It is exact, and keeps the sign of a zero.

@@ -10,15 +10,15 @@ use Rattle.numbers.specs.Logarithm.{log10Of, log1pOf, logOf}
 use Rattle.numbers.specs.Narrow.{nearestF32}
 use Rattle.numbers.specs.Root.{rootOf}
 use Rattle.numbers.specs.Whole.{wholeAbove, wholeBelow, wholeNearest}
-use Rattle.numbers_replay.specs.declared.hex.Word.{Word}
-use Rattle.numbers_replay.specs.declared.hex.Word.the-variants as word
+use Rattle.hexadecimal.specs.declared.Word.{Word}
+use Rattle.hexadecimal.specs.declared.Word.the-variants as word
 use Rattle.numbers_replay.specs.declared.line.Function.{Function}
 use Rattle.numbers_replay.specs.declared.line.Function.the-variants as function
 use Rattle.numbers_replay.specs.declared.line.Named.{Named}
 use Rattle.numbers_replay.specs.declared.line.Named.the-variants as named
 use Rattle.numbers_replay.specs.declared.line.Read.{Read}
 use Rattle.numbers_replay.specs.declared.line.Read.the-variants as read
-use Rattle.numbers_replay.specs.Hexadecimal.{wordFrom}
+use Rattle.hexadecimal.specs.Hexadecimal.{wordFrom}
 
 -- ---- names: six bytes of ASCII, the line above each has them as text
 -- "round "

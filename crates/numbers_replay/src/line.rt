@@ -2,8 +2,7 @@
 ghost use lib.ListN.{length};
 ghost use mathlib.Core.Path.{_≡_};
 ghost use Rattle.numbers_replay.specs.Cases.{functionOf, readOf, sameBytes};
-use crate::hex;
-use crate::hex::Word;
+use hexadecimal::Word;
 
 // The functions of the crate `numbers` that the list names.
 pub enum Function {
@@ -46,10 +45,10 @@ pub fn parse(line: &[u8]) -> Read
     let Named::Is(function) = function_of(&line[..6]) else {
         return Read::Malformed;
     };
-    let Word::Is(input) = hex::parse(&line[7..23]) else {
+    let Word::Is(input) = hexadecimal::parse(&line[7..23]) else {
         return Read::Malformed;
     };
-    let Word::Is(answer) = hex::parse(&line[24..40]) else {
+    let Word::Is(answer) = hexadecimal::parse(&line[24..40]) else {
         return Read::Malformed;
     };
     Read::Whole {

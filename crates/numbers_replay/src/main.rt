@@ -3,7 +3,6 @@
 // `compare/run --list`. A case is a line of 41 bytes: the function's name, padded with blanks to
 // six, and the f64 bit patterns of the input and of the answer, 16 lowercase hexadecimal digits
 // each. An f32 is given widened, and a NaN as 7ff8000000000000.
-mod hex;
 mod line;
 mod reply;
 

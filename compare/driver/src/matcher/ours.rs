@@ -1,0 +1,233 @@
+//! The matcher of the port, as crates/exports hands it out.
+
+use super::case::{Candidate, Frames};
+
+// They are proved to read and write within the slices given, and to answer UNFIT where one is too
+// short.
+unsafe extern "C" {
+    fn matcher_fill_index(
+        fine: *mut f32,
+        fine_len: usize,
+        coarse: *mut f32,
+        coarse_len: usize,
+        fine_squares: *mut f64,
+        fine_squares_len: usize,
+        coarse_squares: *mut f64,
+        coarse_squares_len: usize,
+        bands: usize,
+        hop: f64,
+        times: *const f64,
+        times_len: usize,
+        values: *const f32,
+        values_len: usize,
+    ) -> usize;
+    fn matcher_whole_search(
+        fine: *const f32,
+        fine_len: usize,
+        coarse: *const f32,
+        coarse_len: usize,
+        fine_squares: *const f64,
+        fine_squares_len: usize,
+        coarse_squares: *const f64,
+        coarse_squares_len: usize,
+        reference_bands: usize,
+        frames: usize,
+        start: f64,
+        hop: f64,
+        bands: usize,
+        times: *const f64,
+        times_len: usize,
+        values: *const f32,
+        values_len: usize,
+        work32: *mut f32,
+        work32_len: usize,
+        work64: *mut f64,
+        work64_len: usize,
+        out: *mut f64,
+        out_len: usize,
+    ) -> usize;
+    fn matcher_local_search(
+        fine: *const f32,
+        fine_len: usize,
+        fine_squares: *const f64,
+        fine_squares_len: usize,
+        reference_bands: usize,
+        frames: usize,
+        start: f64,
+        hop: f64,
+        bands: usize,
+        times: *const f64,
+        times_len: usize,
+        values: *const f32,
+        values_len: usize,
+        lower: f64,
+        upper: f64,
+        work32: *mut f32,
+        work32_len: usize,
+        work64: *mut f64,
+        work64_len: usize,
+        out: *mut f64,
+        out_len: usize,
+    ) -> usize;
+}
+
+const REJECTED: usize = 0;
+const FILLED: usize = 1;
+const MOST: usize = 8;
+const NUMBERS: usize = 5;
+
+/// What every buffer holds before it is lent, and a tail afterwards.
+pub const OLD: f64 = 12_345.5;
+
+/// The four buffers of an index, with the counts that a search needs.
+pub struct Index {
+    pub fine: Vec<f32>,
+    pub coarse: Vec<f32>,
+    pub fine_squares: Vec<f64>,
+    pub coarse_squares: Vec<f64>,
+    bands: usize,
+    frames: usize,
+    start: f64,
+    hop: f64,
+}
+
+impl Index {
+    /// Buffers as long as document 01 asks, and `tail` more, not filled yet.
+    pub fn empty(reference: &Frames, hop: f64, tail: usize) -> Self {
+        let (bands, n) = (reference.bands, reference.len());
+        Self {
+            fine: vec![OLD as f32; bands * n + tail],
+            coarse: vec![OLD as f32; bands * (n / 4) + tail],
+            fine_squares: vec![OLD; bands * (n + 1) + tail],
+            coarse_squares: vec![OLD; bands * (n / 4 + 1) + tail],
+            bands,
+            frames: n,
+            start: reference.times.first().copied().unwrap_or(0.0),
+            hop,
+        }
+    }
+
+    /// Whether the reference was accepted. `values` are the reference's, band after band.
+    pub fn fill(&mut self, times: &[f64], values: &[f32]) -> bool {
+        // SAFETY: every pointer goes with its slice's length.
+        let answer = unsafe {
+            matcher_fill_index(
+                self.fine.as_mut_ptr(),
+                self.fine.len(),
+                self.coarse.as_mut_ptr(),
+                self.coarse.len(),
+                self.fine_squares.as_mut_ptr(),
+                self.fine_squares.len(),
+                self.coarse_squares.as_mut_ptr(),
+                self.coarse_squares.len(),
+                self.bands,
+                self.hop,
+                times.as_ptr(),
+                times.len(),
+                values.as_ptr(),
+                values.len(),
+            )
+        };
+        match answer {
+            REJECTED => false,
+            FILLED => true,
+            _ => panic!("the index buffers do not fit"),
+        }
+    }
+
+    pub fn whole(&self, query: &mut Query) -> Vec<Candidate> {
+        let mut out = [OLD; MOST * NUMBERS];
+        // SAFETY: every pointer goes with its slice's length.
+        let count = unsafe {
+            matcher_whole_search(
+                self.fine.as_ptr(),
+                self.fine.len(),
+                self.coarse.as_ptr(),
+                self.coarse.len(),
+                self.fine_squares.as_ptr(),
+                self.fine_squares.len(),
+                self.coarse_squares.as_ptr(),
+                self.coarse_squares.len(),
+                self.bands,
+                self.frames,
+                self.start,
+                self.hop,
+                query.bands,
+                query.times.as_ptr(),
+                query.times.len(),
+                query.values.as_ptr(),
+                query.values.len(),
+                query.work32.as_mut_ptr(),
+                query.work32.len(),
+                query.work64.as_mut_ptr(),
+                query.work64.len(),
+                out.as_mut_ptr(),
+                out.len(),
+            )
+        };
+        candidates(count, &out)
+    }
+
+    pub fn local(&self, query: &mut Query, lower: f64, upper: f64) -> Vec<Candidate> {
+        let mut out = [OLD; MOST * NUMBERS];
+        // SAFETY: every pointer goes with its slice's length.
+        let count = unsafe {
+            matcher_local_search(
+                self.fine.as_ptr(),
+                self.fine.len(),
+                self.fine_squares.as_ptr(),
+                self.fine_squares.len(),
+                self.bands,
+                self.frames,
+                self.start,
+                self.hop,
+                query.bands,
+                query.times.as_ptr(),
+                query.times.len(),
+                query.values.as_ptr(),
+                query.values.len(),
+                lower,
+                upper,
+                query.work32.as_mut_ptr(),
+                query.work32.len(),
+                query.work64.as_mut_ptr(),
+                query.work64.len(),
+                out.as_mut_ptr(),
+                out.len(),
+            )
+        };
+        candidates(count, &out)
+    }
+}
+
+/// A window with its working buffers, which hold garbage of the last search.
+pub struct Query {
+    bands: usize,
+    times: Vec<f64>,
+    values: Vec<f32>,
+    work32: Vec<f32>,
+    work64: Vec<f64>,
+}
+
+impl Query {
+    /// Working buffers as document 01 asks, and `tail` more.
+    pub fn new(window: &Frames, reference_frames: usize, tail: usize) -> Self {
+        let (bands, n) = (window.bands, window.len());
+        Self {
+            bands,
+            times: window.times.clone(),
+            values: window.by_band(),
+            work32: vec![f32::NAN; 2 * bands * n + tail],
+            work64: vec![f64::NAN; 3 * bands * (n + 1) + reference_frames + tail],
+        }
+    }
+}
+
+/// The `count` candidates at the front; behind them stand zeros.
+fn candidates(count: usize, numbers: &[f64]) -> Vec<Candidate> {
+    assert!(count <= MOST, "the slices do not fit");
+    let (listed, rest) = numbers.split_at(count * NUMBERS);
+    assert!(rest.iter().all(|x| x.to_bits() == 0), "blank candidates");
+    let candidate = |chunk: &[f64]| [chunk[0], chunk[1], chunk[2], chunk[3], chunk[4]];
+    listed.chunks_exact(NUMBERS).map(candidate).collect()
+}

@@ -1,0 +1,110 @@
+-- What the C calls of the matcher answer and write, for slices of any lengths. Definitions only.
+use Prim.Native.Nat.{ℕ, _+_, _*_, _/_}
+use mathlib.Core.Bool.{Bool, cond, _&&_}
+use mathlib.Core.List.{List, [], _∷_, _++_}
+use lib.Dec.{eqb, leb, ltb}
+use lib.ListN.{drop, length}
+use lib.Ieee.{Float, le}
+use Rattle.numbers.specs.Arithmetic.{one}
+use Rattle.matcher.specs.Candidates.{resultOf}
+use Rattle.matcher.specs.Index.{acceptsReference, filled, lentBands, lentMatcher, matcherOf}
+use Rattle.matcher.specs.Search.{Window, localSearch, recentMs, wholeSearch}
+use Rattle.matcher.specs.declared.candidates.Candidate.{Candidate}
+use Rattle.matcher.specs.declared.index.Reference.{Reference}
+
+-- The answer where a slice is too short or a number is out of its range: nothing is written then.
+abbrev pub unfit : ℕ
+unfit = 255
+
+-- A reference within document 01's limits, of at least one band; the hop is from 1 to 1,000.
+unfoldable pub fitsLimits : ℕ → ℕ → Float → Bool
+fitsLimits bands frames hop = ltb 0 bands && (leb bands 64 && (leb frames 65535 && (le one hop && le hop recentMs)))
+
+-- The lengths of a slice with n values a band and of one with their energies.
+unfoldable pub fitsBands : ℕ → ℕ → ℕ → ℕ → Bool
+fitsBands bands n values squares = leb (bands * n) values && leb (bands * (n + 1)) squares
+
+-- The lengths of a window's slices and of the working buffers (document 01, refusals 10, 11 and 13).
+unfoldable pub fitsWindow : ℕ → ℕ → ℕ → ℕ → ℕ → ℕ → Bool
+fitsWindow frames bands times values work32 work64 =
+    leb bands 64
+    && (leb times 1024 && (eqb values (bands * times) && (leb (2 * (bands * times)) work32 && leb (3 * (bands * (times + 1)) + frames) work64)))
+
+-- ---- filling the index
+pub record Buffers : Type 0 where
+  pub fine : List Float
+  pub coarse : List Float
+  pub fineSquares : List Float
+  pub coarseSquares : List Float
+
+abbrev pub buffers : List Float → List Float → List Float → List Float → Buffers
+buffers fine coarse fineSquares coarseSquares = record { fine = fine; coarse = coarse; fineSquares = fineSquares; coarseSquares = coarseSquares }
+
+-- Whether the numbers are within their limits, and slices of these lengths long enough.
+unfoldable pub fitsFillLengths : Float → ℕ → ℕ → ℕ → ℕ → ℕ → ℕ → ℕ → Bool
+fitsFillLengths hop bands times values fine coarse fineSquares coarseSquares =
+    fitsLimits bands times hop
+    && (eqb values (bands * times) && (fitsBands bands times fine fineSquares && fitsBands bands (times / 4) coarse coarseSquares))
+
+-- Whether the index can be filled.
+abbrev pub fitsFill : Float → ℕ → List Float → List Float → Buffers → Bool
+fitsFill hop bands times values old =
+    fitsFillLengths hop bands (length times) (length values) (length (old .fine)) (length (old .coarse)) (length (old .fineSquares)) (length (old .coarseSquares))
+
+-- 1 where the index is filled, 0 where the reference is rejected.
+unfoldable pub fillAnswer : Float → ℕ → List Float → List Float → Buffers → ℕ
+fillAnswer hop bands times values old =
+    cond (fitsFill hop bands times values old) (cond (acceptsReference hop bands times values) 1 0) unfit
+
+-- The buffers afterwards: each filled at its front, or as it was.
+unfoldable pub filledBuffers : Float → ℕ → List Float → List Float → Buffers → Buffers
+filledBuffers hop bands times values old =
+    let fills = fitsFill hop bands times values old && acceptsReference hop bands times values in
+    let m = matcherOf hop bands times values in
+    buffers
+    (filled fills (m .fine .values) (old .fine))
+    (filled fills (m .coarse .values) (old .coarse))
+    (filled fills (m .fine .squares) (old .fineSquares))
+    (filled fills (m .coarse .squares) (old .coarseSquares))
+
+-- ---- searches
+-- The numbers of candidates, five each.
+unfoldable pub numbersOf : List Candidate → List Float
+numbersOf [] = []
+numbersOf (c ∷ cs) = c .«offset_ms» ∷ c .score ∷ c .«first_half_score» ∷ c .«second_half_score» ∷ c .«recent_score» ∷ numbersOf cs
+
+-- How many were found, or that something does not fit.
+abbrev pub counted : Bool → List Candidate → ℕ
+counted fits found = cond fits (length found) unfit
+
+-- The numbers of 8 candidates, zeros behind the last found, and the old tail.
+abbrev pub written : Bool → List Candidate → List Float → List Float
+written fits found old = cond fits (numbersOf (resultOf found .candidates) ++ drop 40 old) old
+
+abbrev pub referenceOf : ℕ → ℕ → Float → Float → Reference
+referenceOf bands frames start hop = record { bands = bands; frames = frames; «start_ms» = start; «hop_ms» = hop }
+
+-- Whether slices of these lengths do for a local search: the reference's limits, the window with the working buffers, the fine half of the index, and 40 numbers.
+unfoldable pub fitsLocalLengths : Reference → ℕ → ℕ → ℕ → ℕ → ℕ → ℕ → ℕ → ℕ → Bool
+fitsLocalLengths x fine squares bands times values work32 work64 out =
+    fitsLimits (x .bands) (x .frames) (x .«hop_ms»)
+    && (fitsWindow (x .frames) bands times values work32 work64 && (fitsBands (x .bands) (x .frames) fine squares && leb 40 out))
+
+-- Whether a local search fits.
+abbrev pub fitsLocal : Reference → List Float → List Float → Window → ℕ → ℕ → ℕ → Bool
+fitsLocal x fine squares w work32 work64 out =
+    fitsLocalLengths x (length fine) (length squares) (w .bands) (length (w .times)) (length (w .values)) work32 work64 out
+
+-- Whether a whole search fits: the same, and the coarse half of the index.
+unfoldable pub fitsWhole : Reference → Buffers → Window → ℕ → ℕ → ℕ → Bool
+fitsWhole x index w work32 work64 out =
+    fitsLocal x (index .fine) (index .fineSquares) w work32 work64 out
+    && fitsBands (x .bands) (x .frames / 4) (length (index .coarse)) (length (index .coarseSquares))
+
+-- The whole search over the buffers.
+abbrev pub foundIn : Reference → Buffers → Window → List Candidate
+foundIn x index w = wholeSearch (lentMatcher x (index .fine) (index .coarse) (index .fineSquares) (index .coarseSquares)) w
+
+-- The local search over the fine half.
+abbrev pub foundNear : Reference → List Float → List Float → Window → Float → Float → List Candidate
+foundNear x fine squares w lower upper = localSearch x (lentBands (x .bands) (x .frames) fine squares) w lower upper

@@ -1,0 +1,16 @@
+-- Numbers written in lowercase hexadecimal digits. Definitions only.
+use Prim.Native.Nat.{ℕ, _+_, _-_, _*_}
+use mathlib.Core.Bool.{cond}
+use mathlib.Core.List.{List, [], _∷_}
+use lib.Dec.{eqb, ltb}
+use Rattle.hexadecimal.specs.declared.Word.{Word}
+use Rattle.hexadecimal.specs.declared.Word.the-variants.{Is, Malformed}
+
+-- 0 to 9 for the bytes 48 to 57, 10 to 15 for 97 to 102 ('a' to 'f'), and 16 for any other
+unfoldable pub digitOf : ℕ → ℕ
+digitOf byte = cond (ltb byte 48) 16 (cond (ltb byte 58) (byte - 48) (cond (ltb byte 97) 16 (cond (ltb byte 103) (byte - 87) 16)))
+
+-- the number whose first digits write n and whose others are the bytes
+unfoldable pub wordFrom : ℕ → List ℕ → Word
+wordFrom n [] = Is n
+wordFrom n (byte ∷ bytes) = cond (eqb (digitOf byte) 16) Malformed (wordFrom (n * 16 + digitOf byte) bytes)

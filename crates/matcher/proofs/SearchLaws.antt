@@ -1,0 +1,259 @@
+-- The laws that the functions of src/index.rt and src/search.rt cite: sizes, fronts and parts of buffers, what an accepted window tells, candidates around peaks, and the range of a local search. Assumes nothing.
+use mathlib.Core.Path.{_≡_, refl, sym, ap, subst, _∙_}
+use Prim.Native.Nat.{ℕ, zero, suc, _+_, _-_, _*_, _/_, _^_, _<_, _≤_, min}
+use native.Mathlib.Nat.{mul-add, mul-le-mul-left, le-refl}
+use native.Mathlib.Omega.{arith}
+use mathlib.Core.Bool.{Bool, true, false, cond, _&&_}
+use mathlib.Core.List.{List, [], _∷_, _++_, append-assoc}
+use mir.Val.{Val}
+use denote.Laws.{Is}
+use denote.Struct.Declared.{row as rowOf}
+use borrow.Author.Tests.{ltb-true, leb-true, eqb-true, le-leb, lt-leb}
+use lib.Dec.{T, eqb, ltb, leb}
+use lib.Ieee.{Float, le, lt}
+use lib.Ieee.Scale.{finite}
+use lib.ListN.{length, length-map, take, drop, length-append, length-take, length-drop, take-append-drop}
+use lib.Seq.{take-at, drop-at, take-take, take-append-le, drop-append-le, drop-append-add, drop-drop, length-take-le, take-append-seam}
+use borrow.Rule.Slice.PartMut.{putMid, postOf}
+use Rattle.matcher.specs.Centring.{centred, centredAt, logs, radius}
+use Rattle.numbers.specs.Arithmetic.{atMost, countOf, real}
+use Rattle.number_laws.proofs.CountLaws.{count-monotone, count-at-most}
+use Rattle.number_laws.proofs.Mantissa.{whole-finite}
+use Rattle.number_laws.proofs.Order.{lt→le, le-self}
+use Rattle.matcher.specs.Candidates.{insert, sortInto, sorted, listed, resultOf}
+use Rattle.matcher.specs.Energy.{Bands, averages, allAverages}
+use Rattle.matcher.specs.Index.{acceptsReference}
+use Rattle.matcher.specs.Rows.{row, rows}
+use Rattle.matcher.specs.Search.{Window, searchable, queryValues, candidateIn, candidatesAt, localLow, localHigh, localFound}
+use Rattle.matcher.specs.Timeline.{accepts, regular, validValues}
+use Rattle.matcher.specs.declared.candidates.Candidate.{Candidate}
+use Rattle.matcher.specs.declared.candidates.MatchResult.{MatchResult}
+use Rattle.matcher.specs.declared.index.Reference.{Reference}
+use Rattle.matcher.specs.declared.peaks.Picked.{Picked}
+use Rattle.matcher.proofs.peaks.Picked.{the-type}
+use Rattle.matcher.proofs.RowLaws.{row-within, length-tabulate}
+
+-- one of several rows fits where all do
+pub one-row : {bands l : ℕ} (n : ℕ) → 0 < bands → bands * n ≤ l → n ≤ l
+one-row {bands} n h w = omega (arith, row-within 0 bands n h)
+
+-- The query's bands with n of the window's frames, with what the last band needs besides, and their averages by fours take no more than the window's.
+pub query-room : {bands : ℕ} (frames n : ℕ) → 0 < bands → n ≤ frames
+    → (frames + 1 ≤ bands * (frames + 1))
+    × (bands * n ≤ bands * frames)
+    × (bands * (n + 1) ≤ bands * (frames + 1))
+    × (bands * (n / 4) ≤ bands * n)
+    × (bands * (n / 4 + 1) ≤ bands * (n + 1))
+    × (bands * n + (frames - n) ≤ bands * frames)
+query-room {bands} frames n h w =
+    let e : frames ≡ n + (frames - n) = omega arith in (
+      one-row {bands = bands} (frames + 1) h (le-refl _),
+      mul-le-mul-left bands w,
+      mul-le-mul-left bands (omega arith),
+      mul-le-mul-left bands (omega arith),
+      mul-le-mul-left bands (omega arith),
+      omega (arith, ap (λ (k : ℕ). bands * k) e ∙ mul-add bands n (frames - n), one-row {bands = bands} (frames - n) h (le-refl _)),
+    )
+
+-- two rules for rows that agree below n
+pub rows-ext : {A : Type 0} (f g : ℕ → List A) (n : ℕ) → ((i : ℕ) → i < n → f i ≡ g i) → rows f n ≡ rows g n
+unfolding rows
+rows-ext f g zero h = refl
+rows-ext f g (suc n) h = (λ k. rows-ext f g n (λ i w. h i (omega arith)) k ++ h n (omega arith) k)
+
+-- A list d of which the front was filled with p, and which kept its length: p is as long as the part that it stands for, and can be read there.
+module _ {A : Type 0} (p d : List A) {e : List A} (k : ℕ) (q : e ≡ p ++ drop k d) (s : length e ≡ length d) (h : k ≤ length d) where
+  pub front-length : length p ≡ k
+  front-length = omega (arith, ap length q, length-append p (drop k d), length-drop k d)
+
+  pub front-is : take k e ≡ p
+  front-is = ap (take k) q ∙ take-at p (drop k d) k front-length
+
+  pub front-filled : e ≡ p ++ drop (length p) d
+  front-filled = q ∙ ap (λ (j : ℕ). p ++ drop j d) (sym front-length)
+
+-- A list d of which k elements from `from` on were replaced by p, and which kept its length.
+module _ {A : Type 0} (p d : List A) {e : List A} (from k : ℕ) (q : e ≡ take from d ++ p ++ drop (from + k) d) (s : length e ≡ length d) (h : from + k ≤ length d) where
+  front : length (take from d) ≡ from
+  front = length-take-le from d (omega arith)
+
+  parts : e ≡ take from d ++ (p ++ drop (from + k) d)
+  parts = q ∙ append-assoc (take from d) p (drop (from + k) d)
+
+  pub within-length : length p ≡ k
+  within-length = omega (arith, front, ap length parts, length-append (take from d) (p ++ drop (from + k) d), length-append p (drop (from + k) d), length-drop (from + k) d)
+
+  pub within-is : take k (drop from e) ≡ p
+  within-is = ap (λ (l : List A). take k (drop from l)) parts ∙ ap (take k) (drop-at (take from d) (p ++ drop (from + k) d) from front) ∙ take-at p (drop (from + k) d) k within-length
+
+  pub within-before : take from e ≡ take from d
+  within-before = ap (take from) parts ∙ take-at (take from d) (p ++ drop (from + k) d) from front
+
+-- a list by its front and its rest
+pub front-and-rest : {A : Type 0} {p : List A} (e d : List A) (k : ℕ) → take k e ≡ p → drop k e ≡ drop k d → e ≡ p ++ drop k d
+front-and-rest e d k q s = sym (take-append-drop k e) ∙ (λ i. q i ++ s i)
+
+-- lists that agree at a front agree at a shorter one
+pub shorter-front : {A : Type 0} (m k : ℕ) (x y : List A) → m ≤ k → take k x ≡ take k y → take m x ≡ take m y
+shorter-front m k x y h e = sym (take-take m k x h) ∙ ap (take m) e ∙ take-take m k y h
+
+-- what lies past a filled front does not see it
+pub drop-past : {A : Type 0} (x d : List A) (m k : ℕ) → length x ≡ m → m ≤ k → drop k (x ++ drop m d) ≡ drop k d
+drop-past x d m k l h =
+    let e : k ≡ length x + (k - m) = omega arith in
+    let s : m + (k - m) ≡ k = omega arith in
+    ap (λ (j : ℕ). drop j (x ++ drop m d)) e ∙ drop-append-add x (drop m d) (k - m) ∙ drop-drop (k - m) m d ∙ ap (λ (j : ℕ). drop j d) s
+
+-- the part that was lent from `at` on and came back can be read there
+pub put-read : {A : Type 0} (at k : ℕ) (d part : List A) → at ≤ length d → take (length part) (drop at (putMid at k d part)) ≡ part
+put-read at k d part h = ap (take (length part)) (drop-at (take at d) (part ++ postOf at k d) at (length-take-le at d h)) ∙ take-append-seam part (postOf at k d)
+
+-- the averages of the bands at the front of a list
+pub averages-of-front : (bands n : ℕ) (v : List Float) → bands * n ≤ length v → allAverages bands n v ≡ allAverages bands n (take (bands * n) v)
+averages-of-front bands n v h = rows-ext _ _ bands (λ b w. ap averages (same b w))
+  where
+    all : ℕ
+    all = bands * n
+
+    same : (b : ℕ) → b < bands → row n v b ≡ row n (take all v) b
+    same b w =
+        let fits = row-within b bands n w in
+        ap (λ (l : List Float). row n l b) (sym (take-append-drop all v))
+        ∙ ap (take n) (drop-append-le (b * n) (take all v) (drop all v) (rw length-take (omega arith)))
+        ∙ take-append-le n (drop (b * n) (take all v)) (drop all v) (simp (length-drop, length-take) (omega arith))
+
+pub centred-length : (r : ℕ) (v : List Float) → length (centred r v) ≡ length v
+unfolding centred
+centred-length r v = length-tabulate (centredAt r (logs v)) (length v)
+
+-- a centred row is no longer than its row
+pub centred-within : (r n b : ℕ) (v : List Float) → length (centred r (row n v b)) ≤ n
+centred-within r n b v = rw (centred-length r (row n v b), length-take) (omega arith)
+
+-- what a window keeps of its centred rows is the part of them that is filled
+pub kept-rows : (r bands n : ℕ) (v : List Float) → bands * n ≤ length v
+    → rows (λ (b : ℕ). take (n - 2 * r) (drop r (centred r (row n v b)))) bands ≡ queryValues r bands n v
+kept-rows r bands n v h = rows-ext _ _ bands (λ b w. ap (λ (k : ℕ). take (k - 2 * r) (drop r (centred r (row n v b)))) (sym (long b w)))
+  where
+    long : (b : ℕ) → b < bands → length (centred r (row n v b)) ≡ n
+    long b w = centred-length r (row n v b) ∙ simp (length-take, length-drop) (omega (arith, row-within b bands n w))
+
+-- ---- what is known where all of several tests hold
+pub and-left : (a b : Bool) → a && b ≡ true → a ≡ true
+and-left true b h = refl
+and-left false b h = h
+
+pub and-right : (a b : Bool) → a && b ≡ true → b ≡ true
+and-right true b h = h
+and-right false b h = let z : _≡_ {A = ℕ} 0 1 = cc in absurd (omega arith)
+
+pub and-last : (a b c d : Bool) → a && (b && (c && d)) ≡ true → d ≡ true
+and-last a b c d h = and-right c d (and-right b (c && d) (and-right a (b && (c && d)) h))
+
+-- an accepted reference has bands and frames
+pub accepted-room : (hop : Float) (bands : ℕ) (times values : List Float) → acceptsReference hop bands times values ≡ true → (0 < bands) × (1 < length times)
+unfolding acceptsReference regular
+accepted-room hop bands times values h =
+    let rest = ltb 0 bands && validValues values in (
+      ltb-true 0 bands (and-left (ltb 0 bands) (validValues values) (and-right (regular hop times) rest h)),
+      ltb-true 1 (length times) (and-left (ltb 1 (length times)) _ (and-left (regular hop times) rest h)),
+    )
+
+-- a window that is searchable has the reference's bands, more frames than centring takes away, and no more left than the reference has
+pub searchable-room : (x : Reference) (w : Window) → searchable x w ≡ true
+    → (w .bands ≡ x .bands) × (2 * radius (x .«hop_ms») + 16 < length (w .times)) × (length (w .times) - 2 * radius (x .«hop_ms») ≤ x .frames)
+unfolding searchable accepts
+searchable-room x w h =
+    let r = radius (x .«hop_ms») in
+    let frames = length (w .times) in
+    let timely = eqb (w .bands) (x .bands) && regular (x .«hop_ms») (w .times) in
+    let fits = leb (frames - 2 * r) (x .frames) in
+    let rest = validValues (w .values) && fits in (
+      eqb-true (w .bands) (x .bands) (and-left (eqb (w .bands) (x .bands)) (regular (x .«hop_ms») (w .times)) (and-left timely (ltb (2 * r + 16) frames && rest) h)),
+      ltb-true (2 * r + 16) frames (and-left (ltb (2 * r + 16) frames) rest (and-right timely (ltb (2 * r + 16) frames && rest) h)),
+      leb-true (frames - 2 * r) (x .frames) (and-last timely (ltb (2 * r + 16) frames) (validValues (w .values)) fits h),
+    )
+
+-- ---- candidates around peaks
+with-one : (t : Bool) (c : Candidate) (cs done : List Candidate) → sortInto done (cond t (c ∷ cs) cs) ≡ sortInto (sortInto done (cond t (c ∷ []) [])) cs
+unfolding sortInto
+with-one true c cs done = refl
+with-one false c cs done = refl
+
+module _ (x : Reference) (fine query : Bands) (start : Float) where
+  -- the candidate around a peak is put in
+  pub one-found : (done : List Candidate) (p : ℕ) {low high : ℕ} → low ≡ p * 4 - 4 → high ≡ min (x .frames - query .count) (p * 4 + 4) → low ≤ high
+      → insert (candidateIn x fine query start low high) done ≡ sortInto done (candidatesAt x fine query start (p ∷ []))
+  unfolding sortInto candidatesAt
+  one-found done p {low} {high} a b h = rw (← a, ← b, le-leb low high h)
+
+  -- the query has no place there
+  pub none-found : (done : List Candidate) (p : ℕ) {low high : ℕ} → low ≡ p * 4 - 4 → high ≡ min (x .frames - query .count) (p * 4 + 4) → high < low
+      → done ≡ sortInto done (candidatesAt x fine query start (p ∷ []))
+  unfolding sortInto candidatesAt
+  none-found done p {low} {high} a b h = rw (← a, ← b, lt-leb low high h)
+
+  -- one peak, and then the others
+  pub next-peak : (done : List Candidate) (p : ℕ) (ps : List ℕ)
+      → sortInto done (candidatesAt x fine query start (p ∷ ps)) ≡ sortInto (sortInto done (candidatesAt x fine query start (p ∷ []))) (candidatesAt x fine query start ps)
+  unfolding candidatesAt
+  next-peak done p ps =
+      let low = p * 4 - 4 in
+      let high = min (x .frames - query .count) (p * 4 + 4) in
+      with-one (leb low high) (candidateIn x fine query start low high) (candidatesAt x fine query start ps) done
+
+-- what is found around the first k peaks: going on from here gives the answer
+module _ (x : Reference) (fine query : Bands) (start : Float) (peaks : List ℕ) where
+  abbrev pub Found : ℕ → MatchResult → Type 0
+  Found k found = (found .count ≤ k) × (sortInto (listed found) (candidatesAt x fine query start (drop k peaks)) ≡ sorted (candidatesAt x fine query start peaks))
+
+  pub found-none : {found : MatchResult} → found ≡ resultOf [] → Found 0 found
+  found-none e = (rw e (omega arith), ap (λ (f : MatchResult). sortInto (listed f) (candidatesAt x fine query start peaks)) e)
+
+  pub found-more : (k p : ℕ) (found more : MatchResult) → Found k found → drop k peaks ≡ p ∷ drop (k + 1) peaks → more .count ≤ found .count + 1
+      → listed more ≡ sortInto (listed found) (candidatesAt x fine query start (p ∷ [])) → Found (k + 1) more
+  found-more k p found more before step n e = (
+    omega arith,
+    ap (λ (l : List Candidate). sortInto l (candidatesAt x fine query start (drop (k + 1) peaks))) e
+        ∙ sym (next-peak x fine query start (listed found) p (drop (k + 1) peaks))
+        ∙ ap (λ (l : List ℕ). sortInto (listed found) (candidatesAt x fine query start l)) (sym step)
+        ∙ before .1,
+  )
+
+  pub found-all : (k : ℕ) (found : MatchResult) → Found k found → drop k peaks ≡ [] → listed found ≡ sorted (candidatesAt x fine query start peaks)
+  unfolding sortInto candidatesAt
+  found-all k found done e = rw e at (done .1)
+
+-- what owning picked places tells: their array has 8 elements
+pub eight : (r : Picked) (vs : List Val) → Is (rowOf the-type) r vs → length (r .at) ≡ 8
+eight r vs p = simp length-map at (p .1 .1 .0 .1 .0 .1)
+
+-- ---- the range of a local search
+at-most-cap : (cap x : Float) → T (finite cap) → T (le (atMost cap x) cap)
+at-most-cap cap x f = go (lt x cap) (lt→le x cap)
+  where
+    go : (t : Bool) → (T t → T (le x cap)) → T (le (cond t x cap) cap)
+    go true h = h tt
+    go false h = le-self cap f
+
+-- what is at most m and not below `low` has a count that is so too
+pub counts-within : (m : ℕ) (low : Float) {high : Float} (x : Float) → m ≤ 65535 → high ≡ atMost (real m) x → le low high ≡ true → (countOf low ≤ countOf high) × (countOf high ≤ m)
+counts-within m low {high} x small e h =
+    let fits : m ≤ 2 ^ 53 = omega arith in
+    (count-monotone low high (subst T (sym h) tt), rw e (count-at-most m fits (atMost (real m) x) (at-most-cap (real m) x (whole-finite m fits))))
+
+module _ (x : Reference) (fine query : Bands) (start lower upper : Float) {f g : Bool} {low high : Float} where
+  -- whether a range is searched
+  test-is : f ≡ finite lower → g ≡ finite upper → low ≡ localLow x fine query start lower → high ≡ localHigh x fine query start upper
+      → f && (g && (le lower upper && le low high)) ≡ finite lower && (finite upper && (le lower upper && le (localLow x fine query start lower) (localHigh x fine query start upper)))
+  test-is a b p q = (λ k. a k && (b k && (le lower upper && le (p k) (q k))))
+
+  pub local-one : {c : Candidate} → f ≡ finite lower → g ≡ finite upper → low ≡ localLow x fine query start lower → high ≡ localHigh x fine query start upper
+      → f && (g && (le lower upper && le low high)) ≡ true → c ≡ candidateIn x fine query start (countOf low) (countOf high) → c ∷ [] ≡ localFound x fine query start lower upper
+  unfolding localFound
+  local-one a b p q h e = rw (sym (test-is a b p q) ∙ h) (λ k. (e ∙ (λ j. candidateIn x fine query start (countOf (p j)) (countOf (q j)))) k ∷ [])
+
+  pub local-none : f ≡ finite lower → g ≡ finite upper → low ≡ localLow x fine query start lower → high ≡ localHigh x fine query start upper
+      → f && (g && (le lower upper && le low high)) ≡ false → [] ≡ localFound x fine query start lower upper
+  unfolding localFound
+  local-none a b p q h = rw (sym (test-is a b p q) ∙ h)

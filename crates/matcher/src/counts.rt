@@ -1,0 +1,22 @@
+// Whole numbers.
+ghost use Prim.Native.Nat.{_-_, max, min};
+ghost use mathlib.Core.Path.{_≡_};
+
+// a - b, and 0 where b is larger.
+pub fn less(a: usize, b: usize) -> usize
+    ensures { λ r. ⌜ r ≡ a - b ⌝ }
+{
+    if a < b { 0 } else { a - b }
+}
+
+pub fn least(a: usize, b: usize) -> usize
+    ensures { λ r. ⌜ r ≡ min a b ⌝ }
+{
+    if a < b { a } else { b }
+}
+
+pub fn largest(a: usize, b: usize) -> usize
+    ensures { λ r. ⌜ r ≡ max a b ⌝ }
+{
+    if a < b { b } else { a }
+}

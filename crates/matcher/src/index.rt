@@ -1,0 +1,94 @@
+// The index: what opening fills from a reference, and what a search knows of it.
+ghost use Prim.Native.Nat.{ℕ, _+_, _*_, _/_, _<_, _≤_};
+ghost use lib.ListN.{drop, length};
+ghost use mathlib.Core.Bool.{true};
+ghost use mathlib.Core.List.{_++_};
+ghost use mathlib.Core.Path.{_≡_};
+ghost use Rattle.matcher.specs.Energy.{allAverages, allEnergies};
+ghost use Rattle.matcher.specs.Index.{acceptsReference, filled, fineValues, matcherOf, wideHop};
+use crate::centring::centre_bands;
+use crate::centring::radius;
+use crate::energy::fill_energies;
+use crate::energy::reduce_bands;
+use crate::timeline::are_valid;
+use crate::timeline::is_regular;
+
+// What a search knows of its reference besides the buffers.
+pub struct Reference {
+    pub bands: usize,
+    pub frames: usize,
+    pub start_ms: f64,
+    pub hop_ms: f64,
+}
+
+// Whether the reference is one that can be searched.
+pub fn accepts_reference(times: &[f64], values: &[f32], bands: usize, hop: f64) -> bool
+    ensures { λ r. ⌜ r ≡ acceptsReference hop bands (now (times .entry)) (now (values .entry)) ⌝ }
+{
+    is_regular(times, hop) & ((bands > 0) & are_valid(values))
+}
+
+// The fine half of the index: each band centred, and its energies. The sums that centring needs
+// stand in the energies' place until these are filled.
+fn fill_fine(
+    fine: &mut [f32],
+    squares: &mut [f64],
+    values: &[f32],
+    bands: usize,
+    n: usize,
+    radius: usize,
+)
+    requires { ⌜ 0 < bands ⌝ ∗ ⌜ 0 < n ⌝ ∗ ⌜ radius ≤ 250 ⌝ ∗ ⌜ bands * n ≤ length (now values) ⌝ }
+    requires { ⌜ bands * n ≤ length (now fine) ⌝ ∗ ⌜ bands * (n + 1) ≤ length (now squares) ⌝ }
+    ensures { λ _. ⌜ now (fine .exit) ≡ fineValues radius bands n (now (values .entry)) ++ drop (bands * n) (now (fine .entry)) ⌝ }
+    ensures { λ _. ⌜ now (squares .exit) ≡ allEnergies bands n (fineValues radius bands n (now (values .entry))) ++ drop (bands * (n + 1)) (now (squares .entry)) ⌝ }
+{
+    let room = n + 1;
+    let end = bands * n;
+    centre_bands(fine, &mut squares[..room], values, bands, n, radius, 0, n);
+    fill_energies(squares, &fine[..end], bands, n);
+}
+
+// The coarse half: each band averaged by fours, and its energies.
+fn fill_coarse(coarse: &mut [f32], squares: &mut [f64], fine: &[f32], bands: usize, n: usize)
+    requires { ⌜ bands * n ≤ length (now fine) ⌝ }
+    requires { ⌜ bands * (n / 4) ≤ length (now coarse) ⌝ ∗ ⌜ bands * (n / 4 + 1) ≤ length (now squares) ⌝ }
+    ensures { λ _. ⌜ now (coarse .exit) ≡ allAverages bands n (now (fine .entry)) ++ drop (bands * (n / 4)) (now (coarse .entry)) ⌝ }
+    ensures { λ _. ⌜ now (squares .exit) ≡ allEnergies bands (n / 4) (allAverages bands n (now (fine .entry))) ++ drop (bands * (n / 4 + 1)) (now (squares .entry)) ⌝ }
+{
+    let size = n / 4;
+    let end = bands * size;
+    reduce_bands(coarse, fine, bands, n);
+    fill_energies(squares, &coarse[..end], bands, size);
+}
+
+// Fills the fronts of the four buffers from the reference, and says so. Where the reference is
+// rejected, nothing is written.
+pub fn fill_index(
+    fine: &mut [f32],
+    coarse: &mut [f32],
+    fine_squares: &mut [f64],
+    coarse_squares: &mut [f64],
+    bands: usize,
+    hop: f64,
+    times: &[f64],
+    values: &[f32],
+) -> bool
+    requires { ⌜ wideHop hop ≡ true ⌝ ∗ ⌜ length (now values) ≡ bands * length (now times) ⌝ }
+    requires { ⌜ bands * length (now times) ≤ length (now fine) ⌝ ∗ ⌜ bands * (length (now times) / 4) ≤ length (now coarse) ⌝ }
+    requires { ⌜ bands * (length (now times) + 1) ≤ length (now «fine_squares») ⌝ ∗ ⌜ bands * (length (now times) / 4 + 1) ≤ length (now «coarse_squares») ⌝ }
+    ensures { λ r. ⌜ r ≡ acceptsReference hop bands (now (times .entry)) (now (values .entry)) ⌝ }
+    ensures { λ r. ⌜ now (fine .exit) ≡ filled r (matcherOf hop bands (now (times .entry)) (now (values .entry)) .fine .values) (now (fine .entry)) ⌝ }
+    ensures { λ r. ⌜ now (coarse .exit) ≡ filled r (matcherOf hop bands (now (times .entry)) (now (values .entry)) .coarse .values) (now (coarse .entry)) ⌝ }
+    ensures { λ r. ⌜ now («fine_squares» .exit) ≡ filled r (matcherOf hop bands (now (times .entry)) (now (values .entry)) .fine .squares) (now («fine_squares» .entry)) ⌝ }
+    ensures { λ r. ⌜ now («coarse_squares» .exit) ≡ filled r (matcherOf hop bands (now (times .entry)) (now (values .entry)) .coarse .squares) (now («coarse_squares» .entry)) ⌝ }
+{
+    if !accepts_reference(times, values, bands, hop) {
+        return false;
+    }
+    let n = times.len();
+    let end = bands * n;
+    fill_fine(fine, fine_squares, values, bands, n, radius(hop));
+    fill_coarse(coarse, coarse_squares, &fine[..end], bands, n);
+    true
+}

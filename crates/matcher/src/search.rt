@@ -1,0 +1,675 @@
+// Whole and local search.
+ghost use Prim.Native.Nat.{ℕ, _+_, _-_, _*_, _/_, _<_, _≤_};
+ghost use lib.ListN.{drop, getD, length, take};
+ghost use mathlib.Core.Bool.{true};
+ghost use mathlib.Core.List.{[], _∷_};
+ghost use mathlib.Core.Path.{_≡_};
+ghost use Rattle.matcher.specs.Candidates.{independent, listed, resultOf, sortInto, sorted};
+ghost use Rattle.matcher.specs.Energy.{allEnergies, bandsOf, reduced, totals};
+ghost use Rattle.matcher.specs.Index.{lentBands, lentMatcher, wideHop};
+ghost use Rattle.matcher.specs.Peaks.{peaks};
+ghost use Rattle.matcher.specs.Scores.{correlations};
+ghost use Rattle.matcher.specs.Search.{candidateIn, candidateOf, candidatesAt, clamped, coarseScores, fraction, localFound, localSearch, queryOf, queryStart, queryValues, searchable, separation, vertex, wholeSearch, windowOf};
+use crate::candidates::Candidate;
+use crate::candidates::MatchResult;
+use crate::candidates::insert_by_score;
+use crate::candidates::keep_independent;
+use crate::candidates::nothing_found;
+use crate::candidates::push;
+use crate::centring::centre_bands;
+use crate::centring::radius;
+use crate::counts::largest;
+use crate::counts::least;
+use crate::counts::less;
+use crate::energy::fill_energies;
+use crate::energy::reduce_within;
+use crate::energy::whole_energies;
+use crate::index::Reference;
+use crate::peaks::Picked;
+use crate::peaks::first_maximum;
+use crate::peaks::pick_peaks;
+use crate::scores::correlations;
+use crate::scores::score_part;
+use crate::timeline::accepts_timeline;
+use crate::timeline::are_valid;
+use numbers::float::at_least;
+use numbers::float::at_most;
+use numbers::float::is_finite;
+use numbers::float::real;
+use numbers::whole::ceil;
+use numbers::whole::count;
+use numbers::whole::floor;
+
+// x brought between -0.5 and 0.5.
+fn clamp(x: f64) -> f64
+    ensures { λ r. ⌜ r ≡ clamped x ⌝ }
+{
+    if x < -0.5 {
+        return -0.5;
+    }
+    if x > 0.5 { 0.5 } else { x }
+}
+
+// The top of the parabola through three scores.
+fn vertex_of(left: f64, centre: f64, right: f64) -> f64
+    ensures { λ r. ⌜ r ≡ vertex left centre right ⌝ }
+{
+    let curvature = left - 2.0 * centre + right;
+    if curvature < -0.000001 {
+        clamp(0.5 * (left - right) / curvature)
+    } else {
+        0.0
+    }
+}
+
+// How far the best place lies beside its frame.
+fn fraction_at(scores: &[f64], peak: usize) -> f64
+    requires { ⌜ peak < length (now scores) ⌝ }
+    ensures { λ r. ⌜ r ≡ fraction (now (scores .entry)) peak ⌝ }
+{
+    if (peak > 0) & (peak + 1 < scores.len()) {
+        vertex_of(scores[peak - 1], scores[peak], scores[peak + 1])
+    } else {
+        0.0
+    }
+}
+
+// Centres the window's bands at the front of `query`, and sums their squares at the front of
+// `squares`.
+fn fill_query(
+    query: &mut [f32],
+    squares: &mut [f64],
+    values: &[f32],
+    bands: usize,
+    frames: usize,
+    radius: usize,
+)
+    requires { ⌜ 0 < bands ⌝ ∗ ⌜ 2 * radius < frames ⌝ ∗ ⌜ radius ≤ 250 ⌝ ∗ ⌜ bands * frames ≤ length (now values) ⌝ }
+    requires { ⌜ bands * frames ≤ length (now query) ⌝ ∗ ⌜ bands * (frames + 1) ≤ length (now squares) ⌝ }
+    ensures { λ _. ⌜ take (bands * (frames - 2 * radius)) (now (query .exit)) ≡ queryValues radius bands frames (now (values .entry)) ⌝ }
+    ensures { λ _. ⌜ take (bands * (frames - 2 * radius + 1)) (now (squares .exit)) ≡ allEnergies bands (frames - 2 * radius) (queryValues radius bands frames (now (values .entry))) ⌝ }
+{
+    let room = frames + 1;
+    let n = frames - 2 * radius;
+    let end = bands * n;
+    centre_bands(
+        query,
+        &mut squares[..room],
+        values,
+        bands,
+        frames,
+        radius,
+        radius,
+        n,
+    );
+    fill_energies(squares, &query[..end], bands, n);
+}
+
+// The scores of `places` places from `low` on, written in `work` from `at` on; what stands before
+// stays. `work` has the query's energies from `from` on.
+fn score_places(
+    reference: &[f32],
+    squares: &[f64],
+    frames: usize,
+    query: &[f32],
+    n: usize,
+    bands: usize,
+    work: &mut [f64],
+    from: usize,
+    at: usize,
+    low: usize,
+    places: usize,
+)
+    requires { ⌜ bands ≤ 64 ⌝ ∗ ⌜ frames ≤ 65535 ⌝ ∗ ⌜ low + places + n ≤ frames + 1 ⌝ }
+    requires { ⌜ bands * frames ≤ length (now reference) ⌝ ∗ ⌜ bands * (frames + 1) ≤ length (now squares) ⌝ }
+    requires { ⌜ bands * n ≤ length (now query) ⌝ ∗ ⌜ from + bands * (n + 1) ≤ at ⌝ ∗ ⌜ at + places ≤ length (now work) ⌝ }
+    ensures { λ _. ⌜ take places (drop at (now (work .exit))) ≡ correlations bands (bandsOf frames (now (reference .entry)) (now (squares .entry))) n (now (query .entry)) (totals bands (bandsOf n [] (take (bands * (n + 1)) (drop from (now (work .entry)))))) low places ⌝ }
+    ensures { λ _. ⌜ take at (now (work .exit)) ≡ take at (now (work .entry)) ⌝ }
+{
+    let past = from + bands * (n + 1);
+    let end = at + places;
+    let wholes = whole_energies(&work[from..past], bands, n);
+    correlations(
+        &mut work[at..end],
+        reference,
+        squares,
+        frames,
+        query,
+        &wholes[..bands],
+        n,
+        bands,
+        low,
+    );
+}
+
+// The candidate of the places from `low` on that score so.
+fn candidate_of(
+    fine: &[f32],
+    squares: &[f64],
+    reference: Reference,
+    query: &[f32],
+    query_squares: &[f64],
+    start: f64,
+    n: usize,
+    scores: &[f64],
+    low: usize,
+) -> Candidate
+    requires { ⌜ 0 < length (now scores) ⌝ ∗ ⌜ low + length (now scores) + n ≤ reference .frames + 1 ⌝ }
+    requires { ⌜ reference .bands * reference .frames ≤ length (now fine) ⌝ ∗ ⌜ reference .bands * (reference .frames + 1) ≤ length (now squares) ⌝ }
+    requires { ⌜ reference .bands * n ≤ length (now query) ⌝ ∗ ⌜ reference .bands * (n + 1) ≤ length (now «query_squares») ⌝ }
+    ensures { λ r. ⌜ r ≡ candidateOf reference (bandsOf (reference .frames) (now (fine .entry)) (now (squares .entry))) (bandsOf n (now (query .entry)) (now («query_squares» .entry))) start low (now (scores .entry)) ⌝ }
+{
+    let bands = reference.bands;
+    let frames = reference.frames;
+    let hop = reference.hop_ms;
+    let peak = first_maximum(scores);
+    let index = low + peak;
+    let half = n / 2;
+    let recent = less(n, count(1000.0 / hop));
+    Candidate {
+        offset_ms: reference.start_ms + (real(index) + fraction_at(scores, peak)) * hop - start,
+        score: scores[peak],
+        first_half_score: score_part(
+            fine,
+            squares,
+            frames,
+            query,
+            query_squares,
+            n,
+            bands,
+            index,
+            0,
+            half,
+        ),
+        second_half_score: score_part(
+            fine,
+            squares,
+            frames,
+            query,
+            query_squares,
+            n,
+            bands,
+            index,
+            half,
+            n,
+        ),
+        recent_score: score_part(
+            fine,
+            squares,
+            frames,
+            query,
+            query_squares,
+            n,
+            bands,
+            index,
+            recent,
+            n,
+        ),
+    }
+}
+
+// The best of the places from `low` to `high`. `work` has the query's energies at its front; the
+// scores are worked out from `at` on, and what stands before stays.
+fn best_candidate(
+    fine: &[f32],
+    squares: &[f64],
+    reference: Reference,
+    query: &[f32],
+    start: f64,
+    n: usize,
+    work: &mut [f64],
+    at: usize,
+    low: usize,
+    high: usize,
+) -> Candidate
+    requires { ⌜ reference .bands ≤ 64 ⌝ ∗ ⌜ low ≤ high ⌝ ∗ ⌜ high + n ≤ reference .frames ⌝ ∗ ⌜ reference .frames ≤ 65535 ⌝ }
+    requires { ⌜ reference .bands * reference .frames ≤ length (now fine) ⌝ ∗ ⌜ reference .bands * (reference .frames + 1) ≤ length (now squares) ⌝ }
+    requires { ⌜ reference .bands * n ≤ length (now query) ⌝ ∗ ⌜ reference .bands * (n + 1) ≤ at ⌝ ∗ ⌜ at + reference .frames ≤ length (now work) ⌝ ∗ ⌜ 0 < n ⌝ }
+    ensures { λ r. ⌜ r ≡ candidateIn reference (bandsOf (reference .frames) (now (fine .entry)) (now (squares .entry))) (bandsOf n (now (query .entry)) (take (reference .bands * (n + 1)) (now (work .entry)))) start low high ⌝ }
+    ensures { λ _. ⌜ take at (now (work .exit)) ≡ take at (now (work .entry)) ⌝ }
+{
+    let front = reference.bands * (n + 1);
+    let places = high - low + 1;
+    let end = at + places;
+    score_places(
+        fine,
+        squares,
+        reference.frames,
+        query,
+        n,
+        reference.bands,
+        work,
+        0,
+        at,
+        low,
+        places,
+    );
+    candidate_of(
+        fine,
+        squares,
+        reference,
+        query,
+        &work[0..front],
+        start,
+        n,
+        &work[at..end],
+        low,
+    )
+}
+
+// Whether a search begins.
+fn is_searchable(reference: Reference, bands: usize, times: &[f64], values: &[f32]) -> bool
+    requires { ⌜ wideHop (reference .«hop_ms») ≡ true ⌝ }
+    ensures { λ r. ⌜ r ≡ searchable reference (windowOf bands (now (times .entry)) (now (values .entry))) ⌝ }
+{
+    let margin = 2 * radius(reference.hop_ms);
+    let frames = times.len();
+    accepts_timeline(reference.bands, reference.hop_ms, bands, times)
+        & ((frames > margin + 16)
+            & (are_valid(values) & (less(frames, margin) <= reference.frames)))
+}
+
+// How many averaged places the peaks are apart.
+fn peak_separation(hop: f64) -> usize
+    ensures { λ r. ⌜ r ≡ separation hop ⌝ }
+{
+    largest(1, count(750.0 / (hop * 4.0)))
+}
+
+// Averages the query's bands by fours from `from` on in `query`, and sums the averages' squares from
+// `at` on in `work`; what stands before stays.
+fn reduce_query(query: &mut [f32], work: &mut [f64], bands: usize, n: usize, from: usize, at: usize)
+    requires { ⌜ bands * n ≤ from ⌝ ∗ ⌜ from + bands * (n / 4) ≤ length (now query) ⌝ ∗ ⌜ at + bands * (n / 4 + 1) ≤ length (now work) ⌝ }
+    ensures { λ _. ⌜ take (bands * (n / 4)) (drop from (now (query .exit))) ≡ reduced bands (bandsOf n (take (bands * n) (now (query .entry))) []) .values ⌝ }
+    ensures { λ _. ⌜ take (bands * (n / 4 + 1)) (drop at (now (work .exit))) ≡ reduced bands (bandsOf n (take (bands * n) (now (query .entry))) []) .squares ⌝ }
+    ensures { λ _. ⌜ take from (now (query .exit)) ≡ take from (now (query .entry)) ⌝ }
+    ensures { λ _. ⌜ take at (now (work .exit)) ≡ take at (now (work .entry)) ⌝ }
+{
+    let size = n / 4;
+    let to = from + bands * size;
+    let past = at + bands * (size + 1);
+    reduce_within(query, bands, n, from);
+    fill_energies(&mut work[at..past], &query[from..to], bands, size);
+}
+
+// The peaks of the scores of the bands averaged by fours. `query` has the query at its front; the
+// averages are worked out from `from` on in `query`, their energies and the scores from `at` on in
+// `work`, and what stands before stays.
+fn coarse_peaks(
+    coarse: &[f32],
+    squares: &[f64],
+    reference: Reference,
+    query: &mut [f32],
+    work: &mut [f64],
+    n: usize,
+    from: usize,
+    at: usize,
+) -> Picked
+    requires { ⌜ reference .bands ≤ 64 ⌝ ∗ ⌜ 0 < n ⌝ ∗ ⌜ n ≤ reference .frames ⌝ ∗ ⌜ reference .frames ≤ 65535 ⌝ }
+    requires { ⌜ reference .bands * (reference .frames / 4) ≤ length (now coarse) ⌝ ∗ ⌜ reference .bands * (reference .frames / 4 + 1) ≤ length (now squares) ⌝ }
+    requires { ⌜ reference .bands * n ≤ from ⌝ ∗ ⌜ from + reference .bands * (n / 4) ≤ length (now query) ⌝ ∗ ⌜ at + reference .bands * (n / 4 + 1) + reference .frames ≤ length (now work) ⌝ }
+    ensures { λ r. ⌜ r .count ≤ 8 ⌝ }
+    ensures { λ r. ⌜ take (r .count) (r .at) ≡ peaks (coarseScores (reference .bands) (bandsOf (reference .frames / 4) (now (coarse .entry)) (now (squares .entry))) (bandsOf n (take (reference .bands * n) (now (query .entry))) [])) (separation (reference .«hop_ms»)) ⌝ }
+    ensures { λ r. ⌜ ((k : ℕ) → getD (r .at) k 0 ≤ 65536) ⌝ }
+    ensures { λ _. ⌜ take from (now (query .exit)) ≡ take from (now (query .entry)) ⌝ }
+    ensures { λ _. ⌜ take at (now (work .exit)) ≡ take at (now (work .entry)) ⌝ }
+{
+    let bands = reference.bands;
+    let coarse_frames = reference.frames / 4;
+    let size = n / 4;
+    let places = coarse_frames - size + 1;
+    let to = from + bands * size;
+    let start = at + bands * (size + 1);
+    let end = start + places;
+    reduce_query(query, work, bands, n, from, at);
+    score_places(
+        coarse,
+        squares,
+        coarse_frames,
+        &query[from..to],
+        size,
+        bands,
+        work,
+        at,
+        start,
+        0,
+        places,
+    );
+    pick_peaks(&work[start..end], peak_separation(reference.hop_ms))
+}
+
+// The candidates found so far with the one around a peak, where the query has a place there. `work`
+// has the query's energies at its front; what stands before `at` stays.
+fn with_candidate(
+    found: MatchResult,
+    fine: &[f32],
+    squares: &[f64],
+    reference: Reference,
+    query: &[f32],
+    start: f64,
+    n: usize,
+    work: &mut [f64],
+    at: usize,
+    peak: usize,
+) -> MatchResult
+    requires { ⌜ found .count < 8 ⌝ ∗ ⌜ peak ≤ 65536 ⌝ ∗ ⌜ reference .bands ≤ 64 ⌝ ∗ ⌜ n ≤ reference .frames ⌝ ∗ ⌜ reference .frames ≤ 65535 ⌝ }
+    requires { ⌜ reference .bands * reference .frames ≤ length (now fine) ⌝ ∗ ⌜ reference .bands * (reference .frames + 1) ≤ length (now squares) ⌝ }
+    requires { ⌜ reference .bands * n ≤ length (now query) ⌝ ∗ ⌜ reference .bands * (n + 1) ≤ at ⌝ ∗ ⌜ at + reference .frames ≤ length (now work) ⌝ ∗ ⌜ 0 < n ⌝ }
+    ensures { λ r. ⌜ r .count ≤ found .count + 1 ⌝ }
+    ensures { λ r. ⌜ listed r ≡ sortInto (listed found) (candidatesAt reference (bandsOf (reference .frames) (now (fine .entry)) (now (squares .entry))) (bandsOf n (now (query .entry)) (take (reference .bands * (n + 1)) (now (work .entry)))) start (peak ∷ [])) ⌝ }
+    ensures { λ _. ⌜ take at (now (work .exit)) ≡ take at (now (work .entry)) ⌝ }
+{
+    let centre = peak * 4;
+    let low = less(centre, 4);
+    let high = least(reference.frames - n, centre + 4);
+    if low <= high {
+        let c = best_candidate(
+            fine,
+            squares,
+            reference,
+            query,
+            start,
+            n,
+            work,
+            at,
+            low,
+            high,
+        );
+        return insert_by_score(found, c);
+    }
+    found
+}
+
+// The candidates around the peaks, the best first. `work` has the query's energies at its front.
+fn candidates_around(
+    fine: &[f32],
+    squares: &[f64],
+    reference: Reference,
+    query: &[f32],
+    start: f64,
+    n: usize,
+    work: &mut [f64],
+    at: usize,
+    picked: Picked,
+) -> MatchResult
+    requires { ⌜ reference .bands ≤ 64 ⌝ ∗ ⌜ n ≤ reference .frames ⌝ ∗ ⌜ reference .frames ≤ 65535 ⌝ ∗ ⌜ picked .count ≤ 8 ⌝ }
+    requires { ⌜ reference .bands * reference .frames ≤ length (now fine) ⌝ ∗ ⌜ reference .bands * (reference .frames + 1) ≤ length (now squares) ⌝ }
+    requires { ⌜ reference .bands * n ≤ length (now query) ⌝ ∗ ⌜ reference .bands * (n + 1) ≤ at ⌝ ∗ ⌜ at + reference .frames ≤ length (now work) ⌝ ∗ ⌜ 0 < n ⌝ }
+    requires { ⌜ ((k : ℕ) → getD (picked .at) k 0 ≤ 65536) ⌝ }
+    ensures { λ r. ⌜ r .count ≤ 8 ⌝ }
+    ensures { λ r. ⌜ listed r ≡ sorted (candidatesAt reference (bandsOf (reference .frames) (now (fine .entry)) (now (squares .entry))) (bandsOf n (now (query .entry)) (take (reference .bands * (n + 1)) (now (work .entry)))) start (take (picked .count) (picked .at))) ⌝ }
+{
+    let peaks = picked.at;
+    let limit = picked.count;
+    let mut found = nothing_found();
+    let mut k = 0usize;
+    while k < limit {
+        found = with_candidate(
+            found,
+            fine,
+            squares,
+            reference,
+            query,
+            start,
+            n,
+            work,
+            at,
+            peaks[k],
+        );
+        k += 1;
+    }
+    found
+}
+
+// Fills the query of a window that is searchable, and picks the peaks of its scores averaged by
+// fours. The query and its energies then stand at the fronts of the working buffers.
+fn window_peaks(
+    coarse: &[f32],
+    squares: &[f64],
+    reference: Reference,
+    values: &[f32],
+    frames: usize,
+    radius: usize,
+    work32: &mut [f32],
+    work64: &mut [f64],
+) -> Picked
+    requires { ⌜ 0 < reference .bands ⌝ ∗ ⌜ reference .bands ≤ 64 ⌝ ∗ ⌜ reference .frames ≤ 65535 ⌝ }
+    requires { ⌜ radius ≤ 250 ⌝ ∗ ⌜ 2 * radius < frames ⌝ ∗ ⌜ frames - 2 * radius ≤ reference .frames ⌝ }
+    requires { ⌜ reference .bands * (reference .frames / 4) ≤ length (now coarse) ⌝ ∗ ⌜ reference .bands * (reference .frames / 4 + 1) ≤ length (now squares) ⌝ }
+    requires { ⌜ length (now values) ≡ reference .bands * frames ⌝ ∗ ⌜ 2 * (reference .bands * frames) ≤ length (now work32) ⌝ ∗ ⌜ 3 * (reference .bands * (frames + 1)) + reference .frames ≤ length (now work64) ⌝ }
+    ensures { λ r. ⌜ r .count ≤ 8 ⌝ }
+    ensures { λ r. ⌜ take (r .count) (r .at) ≡ peaks (coarseScores (reference .bands) (lentBands (reference .bands) (reference .frames / 4) (now (coarse .entry)) (now (squares .entry))) (bandsOf (frames - 2 * radius) (queryValues radius (reference .bands) frames (now (values .entry))) [])) (separation (reference .«hop_ms»)) ⌝ }
+    ensures { λ r. ⌜ ((k : ℕ) → getD (r .at) k 0 ≤ 65536) ⌝ }
+    ensures { λ _. ⌜ take (reference .bands * (frames - 2 * radius)) (now (work32 .exit)) ≡ queryValues radius (reference .bands) frames (now (values .entry)) ⌝ }
+    ensures { λ _. ⌜ take (reference .bands * (frames - 2 * radius + 1)) (now (work64 .exit)) ≡ allEnergies (reference .bands) (frames - 2 * radius) (queryValues radius (reference .bands) frames (now (values .entry))) ⌝ }
+{
+    let bands = reference.bands;
+    let n = frames - 2 * radius;
+    let coarse_frames = reference.frames / 4;
+    let end = bands * coarse_frames;
+    let stop = bands * (coarse_frames + 1);
+    let from = bands * n;
+    let at = bands * (n + 1);
+    fill_query(work32, work64, values, bands, frames, radius);
+    coarse_peaks(
+        &coarse[..end],
+        &squares[..stop],
+        reference,
+        work32,
+        work64,
+        n,
+        from,
+        at,
+    )
+}
+
+// The candidates of the whole reference for a window that is searchable.
+fn whole_candidates(
+    fine: &[f32],
+    coarse: &[f32],
+    fine_squares: &[f64],
+    coarse_squares: &[f64],
+    reference: Reference,
+    times: &[f64],
+    values: &[f32],
+    radius: usize,
+    work32: &mut [f32],
+    work64: &mut [f64],
+) -> MatchResult
+    requires { ⌜ 0 < reference .bands ⌝ ∗ ⌜ reference .bands ≤ 64 ⌝ ∗ ⌜ reference .frames ≤ 65535 ⌝ }
+    requires { ⌜ radius ≤ 250 ⌝ ∗ ⌜ 2 * radius < length (now times) ⌝ ∗ ⌜ length (now times) - 2 * radius ≤ reference .frames ⌝ }
+    requires { ⌜ reference .bands * reference .frames ≤ length (now fine) ⌝ ∗ ⌜ reference .bands * (reference .frames + 1) ≤ length (now «fine_squares») ⌝ }
+    requires { ⌜ reference .bands * (reference .frames / 4) ≤ length (now coarse) ⌝ ∗ ⌜ reference .bands * (reference .frames / 4 + 1) ≤ length (now «coarse_squares») ⌝ }
+    requires { ⌜ length (now values) ≡ reference .bands * length (now times) ⌝ ∗ ⌜ 2 * (reference .bands * length (now times)) ≤ length (now work32) ⌝ ∗ ⌜ 3 * (reference .bands * (length (now times) + 1)) + reference .frames ≤ length (now work64) ⌝ }
+    ensures { λ r. ⌜ r ≡ resultOf (independent (sorted (candidatesAt reference (lentBands (reference .bands) (reference .frames) (now (fine .entry)) (now («fine_squares» .entry))) (queryOf radius (windowOf (reference .bands) (now (times .entry)) (now (values .entry)))) (queryStart radius (windowOf (reference .bands) (now (times .entry)) (now (values .entry)))) (peaks (coarseScores (reference .bands) (lentBands (reference .bands) (reference .frames / 4) (now (coarse .entry)) (now («coarse_squares» .entry))) (queryOf radius (windowOf (reference .bands) (now (times .entry)) (now (values .entry))))) (separation (reference .«hop_ms»)))))) ⌝ }
+{
+    let bands = reference.bands;
+    let frames = times.len();
+    let n = frames - 2 * radius;
+    let end = bands * reference.frames;
+    let stop = bands * (reference.frames + 1);
+    let query_end = bands * n;
+    let at = 3 * (bands * (frames + 1));
+    let picked = window_peaks(
+        coarse,
+        coarse_squares,
+        reference,
+        values,
+        frames,
+        radius,
+        work32,
+        work64,
+    );
+    let found = candidates_around(
+        &fine[..end],
+        &fine_squares[..stop],
+        reference,
+        &work32[..query_end],
+        times[radius],
+        n,
+        work64,
+        at,
+        picked,
+    );
+    keep_independent(found)
+}
+
+// The candidates of the whole reference. The buffers hold the index at their fronts; what the
+// working buffers held does not matter.
+pub fn whole_search(
+    fine: &[f32],
+    coarse: &[f32],
+    fine_squares: &[f64],
+    coarse_squares: &[f64],
+    reference: Reference,
+    bands: usize,
+    times: &[f64],
+    values: &[f32],
+    work32: &mut [f32],
+    work64: &mut [f64],
+) -> MatchResult
+    requires { ⌜ wideHop (reference .«hop_ms») ≡ true ⌝ ∗ ⌜ 0 < reference .bands ⌝ ∗ ⌜ reference .bands ≤ 64 ⌝ ∗ ⌜ reference .frames ≤ 65535 ⌝ }
+    requires { ⌜ reference .bands * reference .frames ≤ length (now fine) ⌝ ∗ ⌜ reference .bands * (reference .frames + 1) ≤ length (now «fine_squares») ⌝ }
+    requires { ⌜ reference .bands * (reference .frames / 4) ≤ length (now coarse) ⌝ ∗ ⌜ reference .bands * (reference .frames / 4 + 1) ≤ length (now «coarse_squares») ⌝ }
+    requires { ⌜ length (now values) ≡ bands * length (now times) ⌝ ∗ ⌜ 2 * (bands * length (now times)) ≤ length (now work32) ⌝ ∗ ⌜ 3 * (bands * (length (now times) + 1)) + reference .frames ≤ length (now work64) ⌝ }
+    ensures { λ r. ⌜ r ≡ resultOf (wholeSearch (lentMatcher reference (now (fine .entry)) (now (coarse .entry)) (now («fine_squares» .entry)) (now («coarse_squares» .entry))) (windowOf bands (now (times .entry)) (now (values .entry)))) ⌝ }
+{
+    if !is_searchable(reference, bands, times, values) {
+        return nothing_found();
+    }
+    whole_candidates(
+        fine,
+        coarse,
+        fine_squares,
+        coarse_squares,
+        reference,
+        times,
+        values,
+        radius(reference.hop_ms),
+        work32,
+        work64,
+    )
+}
+
+// The best of the places from `low` to `high` for a window that is searchable.
+fn window_candidate(
+    fine: &[f32],
+    squares: &[f64],
+    reference: Reference,
+    times: &[f64],
+    values: &[f32],
+    radius: usize,
+    low: usize,
+    high: usize,
+    work32: &mut [f32],
+    work64: &mut [f64],
+) -> Candidate
+    requires { ⌜ 0 < reference .bands ⌝ ∗ ⌜ reference .bands ≤ 64 ⌝ ∗ ⌜ reference .frames ≤ 65535 ⌝ }
+    requires { ⌜ radius ≤ 250 ⌝ ∗ ⌜ 2 * radius < length (now times) ⌝ ∗ ⌜ low ≤ high ⌝ ∗ ⌜ high + (length (now times) - 2 * radius) ≤ reference .frames ⌝ }
+    requires { ⌜ reference .bands * reference .frames ≤ length (now fine) ⌝ ∗ ⌜ reference .bands * (reference .frames + 1) ≤ length (now squares) ⌝ }
+    requires { ⌜ length (now values) ≡ reference .bands * length (now times) ⌝ ∗ ⌜ 2 * (reference .bands * length (now times)) ≤ length (now work32) ⌝ ∗ ⌜ 3 * (reference .bands * (length (now times) + 1)) + reference .frames ≤ length (now work64) ⌝ }
+    ensures { λ r. ⌜ r ≡ candidateIn reference (lentBands (reference .bands) (reference .frames) (now (fine .entry)) (now (squares .entry))) (queryOf radius (windowOf (reference .bands) (now (times .entry)) (now (values .entry)))) (queryStart radius (windowOf (reference .bands) (now (times .entry)) (now (values .entry)))) low high ⌝ }
+{
+    let bands = reference.bands;
+    let frames = times.len();
+    let n = frames - 2 * radius;
+    let end = bands * reference.frames;
+    let stop = bands * (reference.frames + 1);
+    let query_end = bands * n;
+    let at = 3 * (bands * (frames + 1));
+    fill_query(work32, work64, values, bands, frames, radius);
+    best_candidate(
+        &fine[..end],
+        &squares[..stop],
+        reference,
+        &work32[..query_end],
+        times[radius],
+        n,
+        work64,
+        at,
+        low,
+        high,
+    )
+}
+
+// The best place with an offset from `lower` to `upper` for a window that is searchable.
+fn local_candidates(
+    fine: &[f32],
+    squares: &[f64],
+    reference: Reference,
+    times: &[f64],
+    values: &[f32],
+    radius: usize,
+    lower: f64,
+    upper: f64,
+    work32: &mut [f32],
+    work64: &mut [f64],
+) -> MatchResult
+    requires { ⌜ 0 < reference .bands ⌝ ∗ ⌜ reference .bands ≤ 64 ⌝ ∗ ⌜ reference .frames ≤ 65535 ⌝ }
+    requires { ⌜ radius ≤ 250 ⌝ ∗ ⌜ 2 * radius < length (now times) ⌝ ∗ ⌜ length (now times) - 2 * radius ≤ reference .frames ⌝ }
+    requires { ⌜ reference .bands * reference .frames ≤ length (now fine) ⌝ ∗ ⌜ reference .bands * (reference .frames + 1) ≤ length (now squares) ⌝ }
+    requires { ⌜ length (now values) ≡ reference .bands * length (now times) ⌝ ∗ ⌜ 2 * (reference .bands * length (now times)) ≤ length (now work32) ⌝ ∗ ⌜ 3 * (reference .bands * (length (now times) + 1)) + reference .frames ≤ length (now work64) ⌝ }
+    ensures { λ r. ⌜ r ≡ resultOf (localFound reference (lentBands (reference .bands) (reference .frames) (now (fine .entry)) (now (squares .entry))) (queryOf radius (windowOf (reference .bands) (now (times .entry)) (now (values .entry)))) (queryStart radius (windowOf (reference .bands) (now (times .entry)) (now (values .entry)))) lower upper) ⌝ }
+{
+    let start = times[radius];
+    let last = reference.frames - (times.len() - 2 * radius);
+    let low = at_least(
+        0.0,
+        ceil((start + lower - reference.start_ms) / reference.hop_ms),
+    );
+    let high = at_most(
+        real(last),
+        floor((start + upper - reference.start_ms) / reference.hop_ms),
+    );
+    if is_finite(lower) & (is_finite(upper) & ((lower <= upper) & (low <= high))) {
+        let c = window_candidate(
+            fine,
+            squares,
+            reference,
+            times,
+            values,
+            radius,
+            count(low),
+            count(high),
+            work32,
+            work64,
+        );
+        return push(nothing_found(), c);
+    }
+    nothing_found()
+}
+
+// The best place with an offset from `lower` to `upper`, both included.
+pub fn local_search(
+    fine: &[f32],
+    squares: &[f64],
+    reference: Reference,
+    bands: usize,
+    times: &[f64],
+    values: &[f32],
+    lower: f64,
+    upper: f64,
+    work32: &mut [f32],
+    work64: &mut [f64],
+) -> MatchResult
+    requires { ⌜ wideHop (reference .«hop_ms») ≡ true ⌝ ∗ ⌜ 0 < reference .bands ⌝ ∗ ⌜ reference .bands ≤ 64 ⌝ ∗ ⌜ reference .frames ≤ 65535 ⌝ }
+    requires { ⌜ reference .bands * reference .frames ≤ length (now fine) ⌝ ∗ ⌜ reference .bands * (reference .frames + 1) ≤ length (now squares) ⌝ }
+    requires { ⌜ length (now values) ≡ bands * length (now times) ⌝ ∗ ⌜ 2 * (bands * length (now times)) ≤ length (now work32) ⌝ ∗ ⌜ 3 * (bands * (length (now times) + 1)) + reference .frames ≤ length (now work64) ⌝ }
+    ensures { λ r. ⌜ r ≡ resultOf (localSearch reference (lentBands (reference .bands) (reference .frames) (now (fine .entry)) (now (squares .entry))) (windowOf bands (now (times .entry)) (now (values .entry))) lower upper) ⌝ }
+{
+    if !is_searchable(reference, bands, times, values) {
+        return nothing_found();
+    }
+    local_candidates(
+        fine,
+        squares,
+        reference,
+        times,
+        values,
+        radius(reference.hop_ms),
+        lower,
+        upper,
+        work32,
+        work64,
+    )
+}

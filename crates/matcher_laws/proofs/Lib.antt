@@ -1,0 +1,13 @@
+-- The theorems of specs/, and below them what they rest on.
+pub mod Cases
+pub mod RowAccess
+pub mod Bounds
+pub mod WholeBounds
+pub mod PeakLaws
+pub mod ResultLaws
+pub mod FilledIndex
+pub mod CentringBounds
+pub mod ScoreBounds
+pub mod CandidateBounds
+pub mod SoundSearch
+pub mod Figures
