@@ -6,7 +6,7 @@ use native.Mathlib.Omega.{arith}
 use mathlib.Core.Bool.{Bool, true, false, not, _&&_}
 use borrow.Author.Tests.{ltb-true, leb-true, eqb-true, not-true, not-false}
 use lib.Ieee.{Float}
-use Rattle.matcher.specs.Index.{wideHop}
+use Rattle.matcher_bands.specs.Centring.{wideHop}
 use Rattle.matcher.specs.declared.index.Reference.{Reference}
 use Rattle.exports.specs.MatcherCalls.{fitsLimits, fitsBands, fitsFillLengths, fitsWindow, fitsLocalLengths}
 

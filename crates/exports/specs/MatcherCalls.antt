@@ -6,10 +6,10 @@ use lib.Dec.{eqb, leb, ltb}
 use lib.ListN.{drop, length}
 use lib.Ieee.{Float, le}
 use Rattle.numbers.specs.Arithmetic.{one}
-use Rattle.matcher.specs.Candidates.{resultOf}
+use Rattle.matcher_picks.specs.Candidates.{resultOf}
 use Rattle.matcher.specs.Index.{acceptsReference, filled, lentBands, lentMatcher, matcherOf}
 use Rattle.matcher.specs.Search.{Window, localSearch, recentMs, wholeSearch}
-use Rattle.matcher.specs.declared.candidates.Candidate.{Candidate}
+use Rattle.matcher_picks.specs.declared.candidates.Candidate.{Candidate}
 use Rattle.matcher.specs.declared.index.Reference.{Reference}
 
 -- The answer where a slice is too short or a number is out of its range: nothing is written then.

@@ -6,11 +6,11 @@ ghost use mathlib.Core.List.{_++_};
 ghost use mathlib.Core.Path.{_≡_};
 ghost use Rattle.exports.specs.MatcherCalls.{Buffers, buffers, counted, fillAnswer, filledBuffers, fitsBands, fitsFillLengths, fitsLimits, fitsLocal, fitsLocalLengths, fitsWhole, fitsWindow, foundIn, foundNear, numbersOf, referenceOf, written};
 ghost use Rattle.matcher.specs.Search.{windowOf};
-use matcher::candidates::MatchResult;
 use matcher::index::Reference;
 use matcher::index::fill_index;
 use matcher::search::local_search;
 use matcher::search::whole_search;
+use matcher_picks::candidates::MatchResult;
 
 // The answer where a slice is too short or a number is out of its range.
 const UNFIT: usize = 255;

@@ -15,23 +15,23 @@ use lib.Ieee.Scale.{finite}
 use lib.ListN.{length, length-map, take, drop, length-append, length-take, length-drop, take-append-drop}
 use lib.Seq.{take-at, drop-at, take-take, take-append-le, drop-append-le, drop-append-add, drop-drop, length-take-le, take-append-seam}
 use borrow.Rule.Slice.PartMut.{putMid, postOf}
-use Rattle.matcher.specs.Centring.{centred, centredAt, logs, radius}
+use Rattle.matcher_bands.specs.Centring.{centred, centredAt, logs, radius}
 use Rattle.numbers.specs.Arithmetic.{atMost, countOf, real}
 use Rattle.number_laws.proofs.CountLaws.{count-monotone, count-at-most}
 use Rattle.number_laws.proofs.Mantissa.{whole-finite}
 use Rattle.number_laws.proofs.Order.{lt→le, le-self}
-use Rattle.matcher.specs.Candidates.{insert, sortInto, sorted, listed, resultOf}
-use Rattle.matcher.specs.Energy.{Bands, averages, allAverages}
+use Rattle.matcher_picks.specs.Candidates.{insert, sortInto, sorted, listed, resultOf}
+use Rattle.matcher_bands.specs.Energy.{Bands, averages, allAverages}
 use Rattle.matcher.specs.Index.{acceptsReference}
-use Rattle.matcher.specs.Rows.{row, rows}
+use Rattle.matcher_bands.specs.Rows.{row, rows}
 use Rattle.matcher.specs.Search.{Window, searchable, queryValues, candidateIn, candidatesAt, localLow, localHigh, localFound}
-use Rattle.matcher.specs.Timeline.{accepts, regular, validValues}
-use Rattle.matcher.specs.declared.candidates.Candidate.{Candidate}
-use Rattle.matcher.specs.declared.candidates.MatchResult.{MatchResult}
+use Rattle.matcher_bands.specs.Timeline.{accepts, regular, validValues}
+use Rattle.matcher_picks.specs.declared.candidates.Candidate.{Candidate}
+use Rattle.matcher_picks.specs.declared.candidates.MatchResult.{MatchResult}
 use Rattle.matcher.specs.declared.index.Reference.{Reference}
-use Rattle.matcher.specs.declared.peaks.Picked.{Picked}
-use Rattle.matcher.proofs.peaks.Picked.{the-type}
-use Rattle.matcher.proofs.RowLaws.{row-within, length-tabulate}
+use Rattle.matcher_picks.specs.declared.peaks.Picked.{Picked}
+use Rattle.matcher_picks.proofs.peaks.Picked.{the-type}
+use Rattle.matcher_bands.proofs.RowLaws.{row-within, length-tabulate}
 
 -- one of several rows fits where all do
 pub one-row : {bands l : ℕ} (n : ℕ) → 0 < bands → bands * n ≤ l → n ≤ l

@@ -4,12 +4,11 @@ use mathlib.Core.Bool.{Bool, cond, _&&_}
 use mathlib.Core.List.{List, _++_}
 use lib.Dec.{ltb}
 use lib.ListN.{length, getD, take, drop}
-use lib.Ieee.{Float, nan, le, ofBits, binary64}
-use Rattle.numbers.specs.Arithmetic.{one}
-use Rattle.matcher.specs.Rows.{rows, row}
-use Rattle.matcher.specs.Timeline.{regular, validValues}
-use Rattle.matcher.specs.Centring.{radius, centred}
-use Rattle.matcher.specs.Energy.{Bands, bandsOf, withEnergies, reduced}
+use lib.Ieee.{Float, nan}
+use Rattle.matcher_bands.specs.Rows.{rows, row}
+use Rattle.matcher_bands.specs.Timeline.{regular, validValues}
+use Rattle.matcher_bands.specs.Centring.{radius, centred}
+use Rattle.matcher_bands.specs.Energy.{Bands, bandsOf, withEnergies, reduced}
 use Rattle.matcher.specs.declared.index.Reference.{Reference}
 
 -- The matcher: bands, frames, start and hop of the reference, its bands as they are and averaged by fours.
@@ -50,7 +49,3 @@ lentMatcher x fine coarse fineSquares coarseSquares = record {
   fine = lentBands (x .bands) (x .frames) fine fineSquares;
   coarse = lentBands (x .bands) (x .frames / 4) coarse coarseSquares;
 }
-
--- A hop that opening accepts is 1 or more. (At most 1,000 too, which nothing here needs.)
-abbrev pub wideHop : Float → Bool
-wideHop hop = le one hop

@@ -1,9 +1,2 @@
-pub mod Rows
-pub mod Timeline
-pub mod Centring
-pub mod Energy
-pub mod Scores
-pub mod Peaks
-pub mod Candidates
 pub mod Index
 pub mod Search

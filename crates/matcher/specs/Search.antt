@@ -2,23 +2,23 @@
 use Prim.Native.Nat.{ℕ, _+_, _-_, _*_, _/_, min, max}
 use mathlib.Core.Bool.{Bool, cond, not, _&&_}
 use mathlib.Core.List.{List, [], _∷_}
-use lib.Dec.{eqb, leb, ltb}
+use lib.Dec.{leb, ltb}
 use lib.ListN.{length, getD}
 use lib.Ieee.{Float, nan, binary64, le, lt, ofBits}
 use lib.Ieee.Scale.{finite}
 use Rattle.numbers.specs.Arithmetic.{_⊕_, _⊖_, _⊗_, _⊘_, zero⁺, two, atLeast, atMost, countOf, real}
 use Rattle.numbers.specs.Logarithm.{half}
 use Rattle.numbers.specs.Whole.{wholeAbove, wholeBelow}
-use Rattle.matcher.specs.Rows.{rows, row}
-use Rattle.matcher.specs.Timeline.{accepts, validValues}
-use Rattle.matcher.specs.Centring.{radius, centred, kept}
-use Rattle.matcher.specs.Energy.{Bands, withEnergies, reduced, totals}
-use Rattle.matcher.specs.Scores.{correlations, scorePart}
-use Rattle.matcher.specs.Peaks.{firstMaximum, peaks}
-use Rattle.matcher.specs.Candidates.{sorted, independent, apartMs}
+use Rattle.matcher_bands.specs.Rows.{rows, row}
+use Rattle.matcher_bands.specs.Timeline.{accepts, validValues}
+use Rattle.matcher_bands.specs.Centring.{radius, centred, kept}
+use Rattle.matcher_bands.specs.Energy.{Bands, withEnergies, reduced, totals}
+use Rattle.matcher_scores.specs.Scores.{correlations, scorePart}
+use Rattle.matcher_picks.specs.Peaks.{firstMaximum, peaks}
+use Rattle.matcher_picks.specs.Candidates.{sorted, independent, apartMs}
 use Rattle.matcher.specs.Index.{Matcher}
 use Rattle.matcher.specs.declared.index.Reference.{Reference}
-use Rattle.matcher.specs.declared.candidates.Candidate.{Candidate}
+use Rattle.matcher_picks.specs.declared.candidates.Candidate.{Candidate}
 
 -- ---- the window
 pub record Window : Type 0 where

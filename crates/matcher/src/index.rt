@@ -4,14 +4,15 @@ ghost use lib.ListN.{drop, length};
 ghost use mathlib.Core.Bool.{true};
 ghost use mathlib.Core.List.{_++_};
 ghost use mathlib.Core.Path.{_≡_};
-ghost use Rattle.matcher.specs.Energy.{allAverages, allEnergies};
-ghost use Rattle.matcher.specs.Index.{acceptsReference, filled, fineValues, matcherOf, wideHop};
-use crate::centring::centre_bands;
-use crate::centring::radius;
-use crate::energy::fill_energies;
-use crate::energy::reduce_bands;
-use crate::timeline::are_valid;
-use crate::timeline::is_regular;
+ghost use Rattle.matcher_bands.specs.Energy.{allAverages, allEnergies};
+ghost use Rattle.matcher.specs.Index.{acceptsReference, filled, fineValues, matcherOf};
+ghost use Rattle.matcher_bands.specs.Centring.{wideHop};
+use matcher_bands::centring::centre_bands;
+use matcher_bands::centring::radius;
+use matcher_bands::energy::fill_energies;
+use matcher_bands::energy::reduce_bands;
+use matcher_bands::timeline::are_valid;
+use matcher_bands::timeline::is_regular;
 
 // What a search knows of its reference besides the buffers.
 pub struct Reference {

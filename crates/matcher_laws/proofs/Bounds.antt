@@ -11,7 +11,7 @@ use Rattle.number_laws.proofs.Order.{cross, below→le}
 use Rattle.numbers.specs.Arithmetic.{zero⁺}
 use Rattle.number_laws.specs.Values.{magnitude, AtMost, Den, Within, Holds}
 use Rattle.number_laws.proofs.Within.{add-within}
-use Rattle.matcher.specs.Rows.{sumTo}
+use Rattle.matcher_bands.specs.Rows.{sumTo}
 
 -- ---- bounds
 -- n * 2 ^ p is a value of the format where a larger one is; for literals, both tests compute.

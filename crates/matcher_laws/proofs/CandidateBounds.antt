@@ -21,13 +21,13 @@ use Rattle.number_laws.proofs.Order.{le-self, lt→le, not-lt→le, le-transiti
 use Rattle.number_laws.proofs.Products.{div-mono}
 use Rattle.number_laws.proofs.Within.{add-within, sub-within, mul-within, div-within, le→size}
 use Rattle.number_laws.proofs.CountLaws.{count-monotone}
-use Rattle.matcher.specs.Rows.{tabulate}
-use Rattle.matcher.specs.Energy.{withEnergies, totals}
-use Rattle.matcher.specs.Scores.{correlationAt, correlations}
-use Rattle.matcher.specs.Peaks.{firstMaximum}
+use Rattle.matcher_bands.specs.Rows.{tabulate}
+use Rattle.matcher_bands.specs.Energy.{withEnergies, totals}
+use Rattle.matcher_scores.specs.Scores.{correlationAt, correlations}
+use Rattle.matcher_picks.specs.Peaks.{firstMaximum}
 use Rattle.matcher.specs.Search.{flat, minusHalf, clamped, vertex, fraction, recentMs, candidateOf, candidateIn}
 use Rattle.matcher.specs.declared.index.Reference.{Reference}
-use Rattle.matcher.proofs.RowLaws.{length-tabulate}
+use Rattle.matcher_bands.proofs.RowLaws.{length-tabulate}
 use Rattle.matcher_laws.specs.CandidateBounds.{tenTrillion, WithinModest, SoundModest, VertexAtMost, FractionAtMost, Timed, CandidateOfSound, CandidateInSound}
 use Rattle.matcher_laws.proofs.Cases.{cond-elim, is-T, is-not-T, and-true-r}
 use Rattle.matcher_laws.proofs.Bounds.{holds, widened, widened-to, within-at-most, at-most-within}

@@ -14,11 +14,11 @@ use lib.Ieee.Scale.{finite}
 use Rattle.numbers.specs.Arithmetic.{_⊕_, _⊖_, _⊗_, zero⁺, real}
 use Rattle.numbers.specs.Logarithm.{log1pOf}
 use Rattle.numbers.specs.Narrow.{nearestF32}
-use Rattle.matcher.specs.Centring.{sumOf, meanAround, centredAt, logs, centred, kept}
-use Rattle.matcher.specs.Timeline.{validValue, validValues}
-use Rattle.matcher.specs.Rows.{row, sumTo}
-use Rattle.matcher.specs.Energy.{zeroF32, four, _+₃₂_, average, averages}
-use Rattle.matcher.proofs.RowLaws.{length-tabulate, all-fails}
+use Rattle.matcher_bands.specs.Centring.{sumOf, meanAround, centredAt, logs, centred, kept}
+use Rattle.matcher_bands.specs.Timeline.{validValue, validValues}
+use Rattle.matcher_bands.specs.Rows.{row, sumTo}
+use Rattle.matcher_bands.specs.Energy.{zeroF32, four, _+₃₂_, average, averages}
+use Rattle.matcher_bands.proofs.RowLaws.{length-tabulate, all-fails}
 use Rattle.number_laws.specs.LogLaws.{logMost₃₂}
 use Rattle.number_laws.specs.Values.{magnitude, AtMost}
 use Rattle.number_laws.proofs.Order.{between-at-most, le-self, le-transitive}

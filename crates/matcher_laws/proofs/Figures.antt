@@ -5,11 +5,11 @@ use lib.Dec.{lit<}
 use lib.ListN.{length}
 use lib.Ieee.{round, units, size, add, sub, mul, div, neg, ofBits, ofInt, toUnsigned, lt, le}
 use Rattle.numbers.specs.Whole.{wholeNearest}
-use Rattle.matcher.specs.Rows.{allTo}
-use Rattle.matcher.specs.Timeline.{onTime, regular, accepts}
-use Rattle.matcher.specs.Centring.{contextFrames, radius, centred}
-use Rattle.matcher.specs.Peaks.{nearTo, freeTo, peaksFrom}
-use Rattle.matcher.specs.Candidates.{marginOf}
+use Rattle.matcher_bands.specs.Rows.{allTo}
+use Rattle.matcher_bands.specs.Timeline.{onTime, regular, accepts}
+use Rattle.matcher_bands.specs.Centring.{contextFrames, radius, centred}
+use Rattle.matcher_picks.specs.Peaks.{nearTo, freeTo, peaksFrom}
+use Rattle.matcher_picks.specs.Candidates.{marginOf}
 use Rattle.matcher.specs.Search.{Window, searchable, wholeSearch, localSearch}
 use Rattle.matcher.specs.declared.index.Reference.{Reference}
 use Rattle.matcher_laws.specs.Figures.{Figures, P3, twenty}

@@ -6,8 +6,8 @@ use mathlib.Core.Path.{_≡_, sym, ap}
 use lib.ListN.{length, drop}
 use lib.Seq.{take-at}
 use lib.Ieee.{Float}
-use Rattle.matcher.specs.Centring.{radius}
-use Rattle.matcher.specs.Energy.{bandsOf, allAverages}
+use Rattle.matcher_bands.specs.Centring.{radius}
+use Rattle.matcher_bands.specs.Energy.{bandsOf, allAverages}
 use Rattle.matcher.specs.Index.{Matcher, matcherOf, fineValues}
 use Rattle.matcher.specs.Search.{wholeSearch, localSearch}
 use Rattle.matcher_laws.specs.FilledIndex.{Sized, opened, FilledIndex}

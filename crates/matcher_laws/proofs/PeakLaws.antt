@@ -13,7 +13,7 @@ use lib.Ieee.{Float, nan, lt, le}
 use borrow.Author.Tests.{ltb-false, eqb-true, eqb-false, eq-eqb, ne-eqb}
 use Rattle.number_laws.specs.Values.{Number}
 use Rattle.number_laws.proofs.Order.{le-reflexive, le-transitive, lt→le, le→not-lt, not-lt→le, not-le→lt}
-use Rattle.matcher.specs.Peaks.{maximumTo, apart, nearTo, better, freeTo, bestFree, peaksFrom, most, peaks}
+use Rattle.matcher_picks.specs.Peaks.{maximumTo, apart, nearTo, better, freeTo, bestFree, peaksFrom, most, peaks}
 use Rattle.matcher_laws.specs.PeakLaws.{Numbers, FirstMaximum, Free, FreeIsApart, FirstFree, PeaksFew, PeaksWithin, PeaksApart, PeakIsBest, PeakFirstLargest, PeaksExhaust}
 use Rattle.matcher_laws.proofs.Cases.{cond-elim, is-T, is-not-T, never, or-false-l, or-false-r}
 

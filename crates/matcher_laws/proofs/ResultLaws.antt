@@ -18,15 +18,15 @@ use Rattle.number_laws.specs.Values.{magnitude}
 use Rattle.number_laws.proofs.Order.{le-reflexive, le-transitive, lt→le, not-lt→le}
 use Rattle.number_laws.proofs.Sums.{sub-not-negative, distance-symmetric}
 use Rattle.number_laws.proofs.CountLaws.{count-monotone, count-of-real, count-at-most}
-use Rattle.matcher.specs.Candidates.{insert, sortInto, sorted, crowded, independentFrom, independent, apartMs, blank, marginOf}
-use Rattle.matcher.specs.Timeline.{accepts, regular, validValues}
-use Rattle.matcher.specs.Centring.{radius}
-use Rattle.matcher.specs.Energy.{Bands}
-use Rattle.matcher.specs.Peaks.{most, peaks}
+use Rattle.matcher_picks.specs.Candidates.{insert, sortInto, sorted, crowded, independentFrom, independent, apartMs, blank, marginOf}
+use Rattle.matcher_bands.specs.Timeline.{accepts, regular, validValues}
+use Rattle.matcher_bands.specs.Centring.{radius}
+use Rattle.matcher_bands.specs.Energy.{Bands}
+use Rattle.matcher_picks.specs.Peaks.{most, peaks}
 use Rattle.matcher.specs.Index.{Matcher}
 use Rattle.matcher.specs.Search.{Window, searchable, queryOf, queryStart, candidateIn, rangeLow, rangeHigh, candidatesAt, place, localLow, localHigh, localFound, coarseScores, separation, wholeSearch, localSearch}
 use Rattle.matcher.specs.declared.index.Reference.{Reference}
-use Rattle.matcher.specs.declared.candidates.Candidate.{Candidate}
+use Rattle.matcher_picks.specs.declared.candidates.Candidate.{Candidate}
 use Rattle.matcher_laws.specs.ResultLaws.{All, Pairs, Scored, NoHigher, Far, From, KeptFrom, SortedByScore, BestFirst, Apart750, AtMostEight, WholeApart, AtMostOne, Searchable, SearchableGives, OfPlaces, WholeFinds, LocalFinds, WholeSorted, MarginLaws}
 use Rattle.matcher_laws.proofs.PeakLaws.{peaks-few}
 use Rattle.matcher_laws.proofs.Cases.{cond-elim, is-T, is-not-T, or-false-l, or-false-r, and-true-l, and-true-r}

@@ -8,12 +8,12 @@ use mathlib.Core.List.{List, _++_}
 use lib.ListN.{length, getD, take, drop, length-append, length-take, length-drop, List·getD-append}
 use lib.Seq.{take-append-le, drop-append-le, drop-at, take-all, getD-take, getD-drop, getD-append-add}
 use lib.Ieee.{Float, nan}
-use Rattle.matcher.specs.Rows.{tabulate, rows, row}
-use Rattle.matcher.specs.Centring.{logs, centredAt, centred, kept}
-use Rattle.matcher.specs.Energy.{energy, energies, average, averages, allEnergies, allAverages, withEnergies, totals}
+use Rattle.matcher_bands.specs.Rows.{tabulate, rows, row}
+use Rattle.matcher_bands.specs.Centring.{logs, centredAt, centred, kept}
+use Rattle.matcher_bands.specs.Energy.{energy, energies, average, averages, allEnergies, allAverages, withEnergies, totals}
 use Rattle.matcher.specs.Index.{fineValues}
 use Rattle.matcher.specs.Search.{queryValues}
-use Rattle.matcher.proofs.RowLaws.{row-within, length-tabulate, getD-tabulate}
+use Rattle.matcher_bands.proofs.RowLaws.{row-within, length-tabulate, getD-tabulate}
 use Rattle.matcher_laws.specs.Words.{Every}
 
 module _ {A : Type 0} (g : ℕ → List A) (n : ℕ) where

@@ -22,9 +22,9 @@ use Rattle.number_laws.proofs.Sums.{sub-not-negative}
 use Rattle.number_laws.proofs.Products.{square-not-negative, mul-mono, mul-mono-by}
 use Rattle.number_laws.proofs.RootLaws.{root-monotone, root-normal}
 use Rattle.number_laws.proofs.Within.{round-within, add-within, sub-within, mul-within, div-within, le→size}
-use Rattle.matcher.specs.Rows.{row, sumTo}
-use Rattle.matcher.specs.Energy.{energy, withEnergies, totals, zeroF32, _+₃₂_}
-use Rattle.matcher.specs.Scores.{product, lane, lanes, onward, dot, thousandth, varianceFloor, bandTerm, termAt, correlationAt, partTerm, partAt, scorePart}
+use Rattle.matcher_bands.specs.Rows.{row, sumTo}
+use Rattle.matcher_bands.specs.Energy.{energy, withEnergies, totals, zeroF32, _+₃₂_}
+use Rattle.matcher_scores.specs.Scores.{product, lane, lanes, onward, dot, thousandth, varianceFloor, bandTerm, termAt, correlationAt, partTerm, partAt, scorePart}
 use Rattle.matcher_laws.specs.ScoreBounds.{Bounded, EnergyWithin, EnergyNotNegative, EnergyGrows, EnergyOfPart, DotWithin, leastWeight, Weight, WeightOfEnergy, ProductNormal, RootOfWeights, BoundedBands, Comparable, weightOf, Radicands, RadicandsNormal, TermWithin, PartWithin, CorrelationWithin, ScorePartWithin}
 use Rattle.matcher_laws.proofs.Bounds.{holds, widened-to, zero-within, sum-to-within}
 use Rattle.matcher_laws.proofs.WholeBounds.{real-mono, add-grows}

@@ -12,14 +12,14 @@ use borrow.Author.Tests.{ltb-true}
 use Rattle.numbers.specs.Arithmetic.{one}
 use Rattle.numbers.proofs.Value.{finite-no-nan}
 use Rattle.number_laws.specs.Values.{Within}
-use Rattle.matcher.specs.Timeline.{regular, validValues}
-use Rattle.matcher.specs.Rows.{row}
-use Rattle.matcher.specs.Centring.{radius}
-use Rattle.matcher.specs.Energy.{allAverages, withEnergies}
+use Rattle.matcher_bands.specs.Timeline.{regular, validValues}
+use Rattle.matcher_bands.specs.Rows.{row}
+use Rattle.matcher_bands.specs.Centring.{radius}
+use Rattle.matcher_bands.specs.Energy.{allAverages, withEnergies}
 use Rattle.matcher.specs.Index.{Matcher, acceptsReference, fineValues, matcherOf}
-use Rattle.matcher.specs.Candidates.{blank}
+use Rattle.matcher_picks.specs.Candidates.{blank}
 use Rattle.matcher.specs.Search.{Window, queryValues, queryOf, queryStart, wholeSearch, localSearch}
-use Rattle.matcher.proofs.RadiusLaw.{radius-small}
+use Rattle.matcher_bands.proofs.RadiusLaw.{radius-small}
 use Rattle.matcher_laws.specs.Words.{Every}
 use Rattle.matcher_laws.specs.CentringBounds.{Small}
 use Rattle.matcher_laws.specs.ResultLaws.{Searchable, OfPlaces}

@@ -6,10 +6,10 @@ use lib.Ieee.{Float, binary64, ofBits}
 use Rattle.numbers.specs.Arithmetic.{one}
 use Rattle.numbers.specs.Logarithm.{half}
 use Rattle.number_laws.specs.Values.{Number, AtMost, Between, Within}
-use Rattle.matcher.specs.Energy.{withEnergies}
+use Rattle.matcher_bands.specs.Energy.{withEnergies}
 use Rattle.matcher.specs.Search.{recentMs, vertex, fraction, candidateOf, candidateIn}
 use Rattle.matcher.specs.declared.index.Reference.{Reference}
-use Rattle.matcher.specs.declared.candidates.Candidate.{Candidate}
+use Rattle.matcher_picks.specs.declared.candidates.Candidate.{Candidate}
 use Rattle.matcher_laws.specs.Words.{Every}
 use Rattle.matcher_laws.specs.ScoreBounds.{Comparable}
 

@@ -7,9 +7,9 @@ use lib.ListN.{length}
 use lib.Ieee.{Float}
 use Rattle.numbers.specs.Arithmetic.{real}
 use Rattle.number_laws.specs.Values.{AtMost, Within}
-use Rattle.matcher.specs.Timeline.{validValues}
-use Rattle.matcher.specs.Centring.{centred, kept}
-use Rattle.matcher.specs.Energy.{averages, allAverages}
+use Rattle.matcher_bands.specs.Timeline.{validValues}
+use Rattle.matcher_bands.specs.Centring.{centred, kept}
+use Rattle.matcher_bands.specs.Energy.{averages, allAverages}
 use Rattle.matcher.specs.Index.{fineValues}
 use Rattle.matcher.specs.Search.{queryValues}
 use Rattle.matcher_laws.specs.Words.{Every, F32}

@@ -8,15 +8,15 @@ use lib.IntN.{pos, negsuc}
 use lib.ListN.{length}
 use lib.Ieee.{Float, fin, binary64, ofBits}
 use Rattle.numbers.specs.Arithmetic.{zero⁺, one}
-use Rattle.matcher.specs.Timeline.{regular}
-use Rattle.matcher.specs.Centring.{radius, centred, kept}
-use Rattle.matcher.specs.Energy.{Bands}
-use Rattle.matcher.specs.Peaks.{peaks}
-use Rattle.matcher.specs.Candidates.{marginOf}
+use Rattle.matcher_bands.specs.Timeline.{regular}
+use Rattle.matcher_bands.specs.Centring.{radius, centred, kept}
+use Rattle.matcher_bands.specs.Energy.{Bands}
+use Rattle.matcher_picks.specs.Peaks.{peaks}
+use Rattle.matcher_picks.specs.Candidates.{marginOf}
 use Rattle.matcher.specs.Index.{Matcher}
 use Rattle.matcher.specs.Search.{Window, wholeSearch, localSearch}
 use Rattle.matcher.specs.declared.index.Reference.{Reference}
-use Rattle.matcher.specs.declared.candidates.Candidate.{Candidate}
+use Rattle.matcher_picks.specs.declared.candidates.Candidate.{Candidate}
 
 -- 20, 20.5 and 21
 abbrev pub twenty : Float

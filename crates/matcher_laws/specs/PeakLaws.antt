@@ -7,7 +7,7 @@ use lib.Dec.{T}
 use lib.ListN.{length, getD, take}
 use lib.Ieee.{Float, nan, lt, le}
 use Rattle.number_laws.specs.Values.{Number}
-use Rattle.matcher.specs.Peaks.{firstMaximum, apart, nearTo, bestFree, most, peaks}
+use Rattle.matcher_picks.specs.Peaks.{firstMaximum, apart, nearTo, bestFree, most, peaks}
 use Rattle.matcher_laws.specs.Words.{Every}
 
 -- None of the scores is a NaN.

@@ -9,15 +9,15 @@ use lib.Ieee.{Float, lt, le}
 use lib.Ieee.Scale.{finite}
 use Rattle.numbers.specs.Arithmetic.{_⊖_, zero⁺, absolute}
 use Rattle.number_laws.specs.Values.{Number, NotNegative}
-use Rattle.matcher.specs.Timeline.{regular, validValues}
-use Rattle.matcher.specs.Centring.{radius}
-use Rattle.matcher.specs.Energy.{Bands}
-use Rattle.matcher.specs.Peaks.{most}
-use Rattle.matcher.specs.Candidates.{sorted, apartMs, independent, blank, marginOf}
+use Rattle.matcher_bands.specs.Timeline.{regular, validValues}
+use Rattle.matcher_bands.specs.Centring.{radius}
+use Rattle.matcher_bands.specs.Energy.{Bands}
+use Rattle.matcher_picks.specs.Peaks.{most}
+use Rattle.matcher_picks.specs.Candidates.{sorted, apartMs, independent, blank, marginOf}
 use Rattle.matcher.specs.Index.{Matcher}
 use Rattle.matcher.specs.Search.{Window, searchable, queryOf, queryStart, candidateIn, wholeSearch, localSearch}
 use Rattle.matcher.specs.declared.index.Reference.{Reference}
-use Rattle.matcher.specs.declared.candidates.Candidate.{Candidate}
+use Rattle.matcher_picks.specs.declared.candidates.Candidate.{Candidate}
 
 -- ---- words
 -- P holds of every candidate of the list.

@@ -11,9 +11,9 @@ use lib.Ieee.Scale.{finite}
 use Rattle.numbers.specs.Arithmetic.{_⊖_, _⊗_, _⊘_, atLeast}
 use Rattle.numbers.specs.Root.{rootOf}
 use Rattle.number_laws.specs.Values.{Within, NotNegative, Normal}
-use Rattle.matcher.specs.Rows.{row}
-use Rattle.matcher.specs.Energy.{energy, Bands, withEnergies, totals}
-use Rattle.matcher.specs.Scores.{dot, varianceFloor, termAt, partAt, correlationAt, scorePart}
+use Rattle.matcher_bands.specs.Rows.{row}
+use Rattle.matcher_bands.specs.Energy.{energy, Bands, withEnergies, totals}
+use Rattle.matcher_scores.specs.Scores.{dot, varianceFloor, termAt, partAt, correlationAt, scorePart}
 use Rattle.matcher_laws.specs.Words.{Every}
 
 -- Every value of the row is finite and within ±2 ^ 7.

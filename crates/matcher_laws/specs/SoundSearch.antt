@@ -8,13 +8,13 @@ use lib.ListN.{length, getD}
 use lib.Ieee.{Float, nan, le}
 use Rattle.numbers.specs.Arithmetic.{one}
 use Rattle.number_laws.specs.Values.{Between, Within}
-use Rattle.matcher.specs.Rows.{row}
-use Rattle.matcher.specs.Centring.{radius}
-use Rattle.matcher.specs.Energy.{Bands, reduced}
-use Rattle.matcher.specs.Peaks.{most}
+use Rattle.matcher_bands.specs.Rows.{row}
+use Rattle.matcher_bands.specs.Centring.{radius}
+use Rattle.matcher_bands.specs.Energy.{Bands, reduced}
+use Rattle.matcher_picks.specs.Peaks.{most}
 use Rattle.matcher.specs.Index.{acceptsReference, matcherOf}
 use Rattle.matcher.specs.Search.{Window, recentMs, queryOf, wholeSearch, localSearch}
-use Rattle.matcher.specs.declared.candidates.Candidate.{Candidate}
+use Rattle.matcher_picks.specs.declared.candidates.Candidate.{Candidate}
 use Rattle.matcher_laws.specs.Words.{Every, F32}
 use Rattle.matcher_laws.specs.ResultLaws.{All, Pairs, NoHigher, Far, Searchable}
 use Rattle.matcher_laws.specs.ScoreBounds.{NormalRadicands}

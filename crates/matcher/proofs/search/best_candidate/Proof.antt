@@ -6,7 +6,7 @@ use native.Mathlib.Omega.{arith}
 use mathlib.Core.List.{List}
 use lib.Ieee.{Float}
 use lib.ListN.{take, drop}
-use Rattle.matcher.specs.Energy.{bandsOf, totals}
+use Rattle.matcher_bands.specs.Energy.{bandsOf, totals}
 use Rattle.matcher.specs.Search.{candidateOf, candidateIn}
 use Rattle.matcher.proofs.SearchLaws.{shorter-front}
 use Rattle.matcher.proofs.search.best_candidate.Statement.{statement}

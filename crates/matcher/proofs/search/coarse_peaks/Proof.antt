@@ -7,9 +7,9 @@ use native.Mathlib.Omega.{arith}
 use mathlib.Core.List.{List, []}
 use lib.Ieee.{Float}
 use lib.ListN.{length, take, drop, length-take}
-use Rattle.matcher.specs.Energy.{bandsOf, totals}
-use Rattle.matcher.specs.Peaks.{peaks}
-use Rattle.matcher.specs.Scores.{correlations}
+use Rattle.matcher_bands.specs.Energy.{bandsOf, totals}
+use Rattle.matcher_picks.specs.Peaks.{peaks}
+use Rattle.matcher_scores.specs.Scores.{correlations}
 use Rattle.matcher.specs.Search.{coarseScores}
 use Rattle.matcher.proofs.SearchLaws.{shorter-front}
 use Rattle.matcher.proofs.search.coarse_peaks.Statement.{statement}

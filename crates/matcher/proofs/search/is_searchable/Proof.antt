@@ -2,7 +2,7 @@
 use borrow.Author.Needs.{needs}
 use native.Mathlib.Omega.{arith}
 use Rattle.matcher.specs.Search.{searchable}
-use Rattle.matcher.proofs.RadiusLaw.{radius-small}
+use Rattle.matcher_bands.proofs.RadiusLaw.{radius-small}
 use Rattle.matcher.proofs.search.is_searchable.Statement.{statement}
 use Rattle.matcher.proofs.search.is_searchable.Tie as tie
 

@@ -7,11 +7,11 @@ use native.Mathlib.Omega.{arith}
 use lib.Ieee.{Float, le, ofBits}
 use lib.ListN.{length}
 use Rattle.numbers.specs.Arithmetic.{zero⁺, atLeast, atMost}
-use Rattle.matcher.specs.Candidates.{resultOf}
+use Rattle.matcher_picks.specs.Candidates.{resultOf}
 use Rattle.matcher.specs.Index.{lentBands}
 use Rattle.matcher.specs.Search.{queryOf, queryStart, windowOf, candidateIn}
-use Rattle.matcher.specs.declared.candidates.Candidate.{Candidate}
-use Rattle.matcher.proofs.CandidateLaws.{listed-result, result-listed}
+use Rattle.matcher_picks.specs.declared.candidates.Candidate.{Candidate}
+use Rattle.matcher_picks.proofs.CandidateLaws.{listed-result, result-listed}
 use Rattle.matcher.proofs.SearchLaws.{and-last, counts-within, local-one, local-none}
 use Rattle.matcher.proofs.search.local_candidates.Statement.{statement}
 use Rattle.matcher.proofs.search.local_candidates.Tie as tie

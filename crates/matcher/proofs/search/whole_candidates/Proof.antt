@@ -8,10 +8,10 @@ use mathlib.Core.List.{List}
 use lib.Ieee.{Float, nan}
 use lib.ListN.{length, getD, take, length-take}
 use lib.Seq.{length-take-le}
-use Rattle.matcher.specs.Candidates.{independent, resultOf, sorted}
-use Rattle.matcher.specs.Energy.{bandsOf}
+use Rattle.matcher_picks.specs.Candidates.{independent, resultOf, sorted}
+use Rattle.matcher_bands.specs.Energy.{bandsOf}
 use Rattle.matcher.specs.Search.{candidatesAt, coarseScores, queryOf}
-use Rattle.matcher.specs.declared.candidates.Candidate.{Candidate}
+use Rattle.matcher_picks.specs.declared.candidates.Candidate.{Candidate}
 use Rattle.matcher.proofs.SearchLaws.{query-room}
 use Rattle.matcher.proofs.search.whole_candidates.Statement.{statement}
 use Rattle.matcher.proofs.search.whole_candidates.Tie as tie

@@ -4,7 +4,7 @@ use borrow.Author.Tests.{not-true, not-false}
 use mathlib.Core.Path.{sym, _∙_}
 use native.Mathlib.Omega.{arith}
 use Rattle.matcher.specs.Search.{wholeSearch, windowOf}
-use Rattle.matcher.proofs.RadiusLaw.{radius-small}
+use Rattle.matcher_bands.proofs.RadiusLaw.{radius-small}
 use Rattle.matcher.proofs.SearchLaws.{searchable-room}
 use Rattle.matcher.proofs.search.whole_search.Statement.{statement}
 use Rattle.matcher.proofs.search.whole_search.Tie as tie

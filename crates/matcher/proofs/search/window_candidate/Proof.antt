@@ -6,7 +6,7 @@ use native.Mathlib.Numerals.{add-one}
 use native.Mathlib.Omega.{arith}
 use lib.Ieee.{nan}
 use lib.ListN.{length, getD, take, length-take}
-use Rattle.matcher.specs.Energy.{bandsOf}
+use Rattle.matcher_bands.specs.Energy.{bandsOf}
 use Rattle.matcher.specs.Search.{candidateIn, queryOf}
 use Rattle.matcher.proofs.SearchLaws.{query-room}
 use Rattle.matcher.proofs.search.window_candidate.Statement.{statement}

@@ -6,8 +6,8 @@ use native.Mathlib.Numerals.{add-one}
 use native.Mathlib.Omega.{arith}
 use mathlib.Core.List.{[]}
 use lib.ListN.{take, length-take}
-use Rattle.matcher.specs.Energy.{bandsOf}
-use Rattle.matcher.specs.Peaks.{peaks}
+use Rattle.matcher_bands.specs.Energy.{bandsOf}
+use Rattle.matcher_picks.specs.Peaks.{peaks}
 use Rattle.matcher.specs.Search.{coarseScores, separation}
 use Rattle.matcher.proofs.SearchLaws.{query-room}
 use Rattle.matcher.proofs.search.window_peaks.Statement.{statement}

@@ -1,0 +1,4 @@
+pub mod CentringLaws
+pub mod EnergyLaws
+pub mod RadiusLaw
+pub mod RowLaws

@@ -1,0 +1,46 @@
+-- `matcher_bands::centring::centre_band` meets its contract: what `centre` leaves at the row's front is a part of the centred logs. Assumes nothing.
+use mathlib.Core.Path.{sym, ap, _∙_}
+use mathlib.Core.List.{List}
+use Prim.Native.Nat.{ℕ, _+_}
+use native.Mathlib.Omega.{arith}
+use lib.Ieee.{Float, nan}
+use lib.ListN.{length, take, drop}
+use lib.Seq.{take-at}
+use borrow.Author.Needs.{needs}
+use Rattle.matcher_bands.specs.Rows.{tabulate}
+use Rattle.matcher_bands.specs.Centring.{logs, centredAt, centred}
+use Rattle.matcher_bands.proofs.RowLaws.{length-tabulate}
+use Rattle.matcher_bands.proofs.CentringLaws.{tabulate-part}
+use Rattle.matcher_bands.proofs.centring.centre_band.Statement.{statement}
+use Rattle.matcher_bands.proofs.centring.centre_band.Tie as tie
+
+centre-requires : tie.Need-centre-requires
+centre-requires c κs =
+    let sums = c .before .before .before .before .fill-sums in
+    let n = c .before .before .before .before .before .before .before .before .before .fill-logs .kept .0 in
+    let m = sums .kept .0 in
+    (omega arith, (omega arith, (omega arith, (omega arith, sums .ensures))))
+
+returns : tie.Need-returns
+unfolding centred
+returns c =
+    let at = c .before .before .before .before .before .before .before .before .before .before .before .before in
+    let a = at .before .before .before .before .before .args in
+    let v = a .values .now in
+    let l = at .fill-logs .last .0 in
+    let f : List Float → ℕ → Float = λ l i. centredAt (a .radius) l (a .from + i) in
+    ap (take (a .count)) (c .before .before .centre .ensures)
+    ∙ take-at (tabulate (f l) (a .count)) (drop (a .count) l) (a .count) (length-tabulate (f l) (a .count))
+    ∙ ap (λ (l : List Float). tabulate (f l) (a .count)) (at .fill-logs .ensures)
+    ∙ sym (tabulate-part (centredAt (a .radius) (logs v)) nan (length v) (a .from) (a .count) (omega arith))
+
+pub centre-band-spec : {M : Type 1} → statement M
+centre-band-spec =
+    tie.close
+    (tie.spec
+    (λ c κs. search needs)
+    (λ c κs. search needs)
+    centre-requires
+    (λ c. search needs)
+    (λ c. search needs)
+    returns)

@@ -1,0 +1,4 @@
+pub mod Rows
+pub mod Timeline
+pub mod Centring
+pub mod Energy

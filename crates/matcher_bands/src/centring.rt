@@ -1,0 +1,148 @@
+// Logs of a band, less their mean over the frames around each. Logs and sums stand in the buffers
+// that are filled in the end, so that nothing else is needed.
+ghost use Prim.Native.Nat.{ℕ, _+_, _-_, _*_, _<_, _≤_};
+ghost use lib.Ieee.{nan};
+ghost use lib.ListN.{drop, getD, length, take};
+ghost use mathlib.Core.List.{_++_};
+ghost use mathlib.Core.Path.{_≡_};
+ghost use Rattle.matcher_bands.specs.Centring.{centred, centredAt, contextFrames, logs, meanAround, radius, sumOf};
+ghost use Rattle.matcher_bands.specs.Rows.{row, rows, tabulate};
+use crate::counts::least;
+use crate::counts::less;
+use numbers::float::at_least;
+use numbers::float::real;
+use numbers::float::widen;
+use numbers::logarithm::ln_1p;
+use numbers::narrow::narrow;
+use numbers::whole::count;
+use numbers::whole::round;
+
+// 250 ms in frames, rounded: 0 at a hop above 500.
+pub fn context_frames(hop: f64) -> f64
+    ensures { λ r. ⌜ r ≡ contextFrames hop ⌝ }
+{
+    round(250.0 / hop)
+}
+
+// The radius: 250 ms in frames, at least 1.
+pub fn radius(hop: f64) -> usize
+    ensures { λ r. ⌜ r ≡ radius hop ⌝ }
+{
+    count(at_least(1.0, context_frames(hop)))
+}
+
+// Fills the row with the logs of 1 + value.
+fn fill_logs(row: &mut [f32], values: &[f32])
+    requires { ⌜ length (now row) ≡ length (now values) ⌝ }
+    ensures { λ _. ⌜ now (row .exit) ≡ logs (now (values .entry)) ⌝ }
+{
+    let n = values.len();
+    let mut i = 0usize;
+    while i < n {
+        row[i] = ln_1p(values[i]);
+        i += 1;
+    }
+}
+
+// Fills the row with the prefix sums: one more than there are values.
+fn fill_sums(sums: &mut [f64], values: &[f32])
+    requires { ⌜ length (now sums) ≡ length (now values) + 1 ⌝ }
+    ensures { λ _. ⌜ now (sums .exit) ≡ tabulate (sumOf (now (values .entry))) (length (now (values .entry)) + 1) ⌝ }
+{
+    let n = values.len();
+    let mut sum = 0.0f64;
+    let mut i = 0usize;
+    while i < n {
+        sums[i] = sum;
+        sum = sum + widen(values[i]);
+        i += 1;
+    }
+    sums[n] = sum;
+}
+
+// The mean over the frames around i, by the prefix sums. `first` and `last` are the values at the
+// ends, which stand in for what lies past them.
+fn mean_around(sums: &[f64], first: f32, last: f32, radius: usize, i: usize) -> f32
+    requires { ⌜ i + 1 < length (now sums) ⌝ ∗ ⌜ radius ≤ 250 ⌝ }
+    ensures { λ r. ⌜ r ≡ meanAround (λ (k : ℕ). getD (now (sums .entry)) k nan) (length (now (sums .entry)) - 1) first last radius i ⌝ }
+{
+    let n = sums.len() - 1;
+    let past = i + radius + 1;
+    let high = least(n, past);
+    let low = less(i, radius);
+    let before = real(less(radius, i)) * widen(first);
+    let after = real(less(past, n)) * widen(last);
+    narrow((sums[high] - sums[low] + before + after) / real(2 * radius + 1))
+}
+
+// Replaces `count` values at the row's front: place i gets the centred value of frame `from` + i.
+// The row holds logs, and `sums` their prefix sums.
+fn centre(row: &mut [f32], sums: &[f64], radius: usize, from: usize, count: usize)
+    requires { ⌜ length (now sums) ≡ length (now row) + 1 ⌝ ∗ ⌜ radius ≤ 250 ⌝ ∗ ⌜ from + count ≤ length (now row) ⌝ ∗ ⌜ 0 < length (now row) ⌝ }
+    requires { ⌜ now sums ≡ tabulate (sumOf (now row)) (length (now row) + 1) ⌝ }
+    ensures { λ _. ⌜ now (row .exit) ≡ tabulate (λ (i : ℕ). centredAt radius (now (row .entry)) (from + i)) count ++ drop count (now (row .entry)) ⌝ }
+{
+    let first = row[0];
+    let last = row[row.len() - 1];
+    let mut i = 0usize;
+    while i < count {
+        let value = row[from + i];
+        row[i] = value - mean_around(sums, first, last, radius, from + i);
+        i += 1;
+    }
+}
+
+// Centres one band: `count` of its frames from `from` on, at the row's front. The rest of the row,
+// and `sums`, are left with what they were used for.
+fn centre_band(
+    row: &mut [f32],
+    sums: &mut [f64],
+    values: &[f32],
+    radius: usize,
+    from: usize,
+    count: usize,
+)
+    requires { ⌜ length (now row) ≡ length (now values) ⌝ ∗ ⌜ length (now sums) ≡ length (now values) + 1 ⌝ ∗ ⌜ 0 < length (now values) ⌝ }
+    requires { ⌜ radius ≤ 250 ⌝ ∗ ⌜ from + count ≤ length (now values) ⌝ }
+    ensures { λ _. ⌜ take count (now (row .exit)) ≡ take count (drop from (centred radius (now (values .entry)))) ⌝ }
+{
+    fill_logs(row, values);
+    fill_sums(sums, row);
+    centre(row, sums, radius, from, count);
+}
+
+// Centres the bands one after the other: `count` frames of each, from `from` on. A band's row is
+// worked out in the `frames` places from its own start on, so it is followed by the next one's, and
+// the last by what it was worked out from.
+pub fn centre_bands(
+    out: &mut [f32],
+    sums: &mut [f64],
+    values: &[f32],
+    bands: usize,
+    frames: usize,
+    radius: usize,
+    from: usize,
+    count: usize,
+)
+    requires { ⌜ bands * frames ≤ length (now values) ⌝ ∗ ⌜ bands * count + (frames - count) ≤ length (now out) ⌝ ∗ ⌜ length (now sums) ≡ frames + 1 ⌝ }
+    requires { ⌜ 0 < frames ⌝ ∗ ⌜ radius ≤ 250 ⌝ ∗ ⌜ from + count ≤ frames ⌝ }
+    ensures { λ _. ⌜ take (bands * count) (now (out .exit)) ≡ rows (λ (b : ℕ). take count (drop from (centred radius (row frames (now (values .entry)) b)))) bands ⌝ }
+    ensures { λ _. ⌜ drop (bands * count + (frames - count)) (now (out .exit)) ≡ drop (bands * count + (frames - count)) (now (out .entry)) ⌝ }
+{
+    let mut b = 0usize;
+    while b < bands {
+        let at = b * count;
+        let end = at + frames;
+        let start = b * frames;
+        let stop = start + frames;
+        centre_band(
+            &mut out[at..end],
+            sums,
+            &values[start..stop],
+            radius,
+            from,
+            count,
+        );
+        b += 1;
+    }
+}

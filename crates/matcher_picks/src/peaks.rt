@@ -1,0 +1,96 @@
+// Which places of a list of scores are picked.
+ghost use Prim.Native.Nat.{ℕ, _<_, _≤_};
+ghost use lib.ListN.{getD, length, take};
+ghost use mathlib.Core.Path.{_≡_};
+ghost use Rattle.matcher_picks.specs.Peaks.{apart, bestFree, better, firstMaximum, nearTo, peaks};
+
+// The first of the largest scores.
+pub fn first_maximum(scores: &[f64]) -> usize
+    requires { ⌜ 0 < length (now scores) ⌝ }
+    ensures { λ r. ⌜ r ≡ firstMaximum (now (scores .entry)) ⌝ }
+    ensures { λ r. ⌜ r < length (now (scores .entry)) ⌝ }
+{
+    let mut best = 0usize;
+    let mut i = 0usize;
+    while i < scores.len() {
+        if scores[i] > scores[best] {
+            best = i;
+        }
+        i += 1;
+    }
+    best
+}
+
+fn distance(a: usize, b: usize) -> usize
+    ensures { λ r. ⌜ r ≡ apart a b ⌝ }
+{
+    if a < b { b - a } else { a - b }
+}
+
+// Whether one of the places taken is nearer than the separation to i.
+fn is_near(taken: &[usize], separation: usize, i: usize) -> bool
+    ensures { λ r. ⌜ r ≡ nearTo (now (taken .entry)) separation i (length (now (taken .entry))) ⌝ }
+{
+    let mut found = false;
+    let mut k = 0usize;
+    while k < taken.len() {
+        if distance(taken[k], i) < separation {
+            found = true;
+        }
+        k += 1;
+    }
+    found
+}
+
+// Place i against the best so far; there is none yet where that is the number of scores.
+fn better_of(scores: &[f64], best: usize, i: usize) -> usize
+    requires { ⌜ best ≤ length (now scores) ⌝ ∗ ⌜ i < length (now scores) ⌝ }
+    ensures { λ r. ⌜ r ≡ better (now (scores .entry)) best i ⌝ }
+    ensures { λ r. ⌜ r ≤ length (now (scores .entry)) ⌝ }
+{
+    if best == scores.len() {
+        return i;
+    }
+    if scores[i] > scores[best] { i } else { best }
+}
+
+// The first of the largest scores among the free places.
+fn best_free(scores: &[f64], separation: usize, taken: &[usize]) -> usize
+    ensures { λ r. ⌜ r ≡ bestFree (now (scores .entry)) separation (now (taken .entry)) ⌝ }
+    ensures { λ r. ⌜ r ≤ length (now (scores .entry)) ⌝ }
+{
+    let mut best = scores.len();
+    let mut i = 0usize;
+    while i < scores.len() {
+        if !is_near(taken, separation, i) {
+            best = better_of(scores, best, i);
+        }
+        i += 1;
+    }
+    best
+}
+
+// Places in the order in which they were picked.
+pub struct Picked {
+    pub at: [usize; 8],
+    pub count: usize,
+}
+
+// At most 8 places, each the best that is free.
+pub fn pick_peaks(scores: &[f64], separation: usize) -> Picked
+    ensures { λ r. ⌜ r .count ≤ 8 ⌝ }
+    ensures { λ r. ⌜ take (r .count) (r .at) ≡ peaks (now (scores .entry)) separation ⌝ }
+    ensures { λ r. ⌜ ((k : ℕ) → getD (r .at) k 0 ≤ length (now (scores .entry))) ⌝ }
+{
+    let mut at = [0usize; 8];
+    let mut n = 0usize;
+    while n < 8 {
+        let best = best_free(scores, separation, &at[..n]);
+        if best == scores.len() {
+            return Picked { at, count: n };
+        }
+        at[n] = best;
+        n += 1;
+    }
+    Picked { at, count: n }
+}

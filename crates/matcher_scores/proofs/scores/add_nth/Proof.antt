@@ -1,0 +1,47 @@
+-- `matcher_scores::scores::add_nth` meets its contract. Assumes nothing.
+use borrow.Author.Needs.{needs}
+use mathlib.Core.Path.{_∙_}
+use native.Mathlib.Nat.{add-sub-cancel-left}
+use native.Mathlib.Numerals.{add-one}
+use Rattle.matcher_scores.specs.Scores.{termAt}
+use Rattle.matcher_scores.proofs.scores.add_nth.Statement.{statement}
+use Rattle.matcher_scores.proofs.scores.add_nth.Tie as tie
+
+returns : tie.Need-returns
+unfolding termAt
+returns c =
+    let energy = c .before .before .before .before .before .before .before .at-least .ensures in
+    let floor = c .before .before .before .before .before .before .before .before .before .variance-floor .ensures in
+    c .before .before .add-band .ensures ∙ simp (add-sub-cancel-left, add-one, energy, floor)
+
+pub add-nth-spec : {M : Type 1} → statement M
+add-nth-spec =
+    tie.close
+    (tie.spec
+    (λ c. search needs)
+    (λ c. search needs)
+    (λ c. search needs)
+    (λ c. search needs)
+    (λ c. search needs)
+    (λ c. search needs)
+    (λ c. search needs)
+    (λ c. search needs)
+    (λ c κs. search needs)
+    (λ c. search needs)
+    (λ c. search needs)
+    (λ c κs. search needs)
+    (λ c. search needs)
+    (λ c. search needs)
+    (λ c. search needs)
+    (λ c. search needs)
+    (λ c. search needs)
+    (λ c. search needs)
+    (λ c. search needs)
+    (λ c. search needs)
+    (λ c. search needs)
+    (λ c. search needs)
+    (λ c. search needs)
+    (λ c. search needs)
+    (λ c κs. search needs)
+    (λ c. search needs)
+    returns)

@@ -1,0 +1,83 @@
+-- `matcher_scores::scores::sum_bands` meets its contract. The loop's invariant: each score is the sum over the bands passed. Assumes nothing.
+use mathlib.Core.Path.{_≡_, refl, sym, ap, _∙_}
+use Prim.Native.Nat.{ℕ, _+_, _-_, _≤_}
+use native.Mathlib.Numerals.{add-one}
+use native.Mathlib.Omega.{arith}
+use mathlib.Core.List.{List}
+use lib.ListN.{length}
+use lib.Ieee.{Float, nan}
+use Rattle.numbers.specs.Arithmetic.{_⊕_, zero⁺}
+use Rattle.matcher_bands.specs.Rows.{tabulate, sumTo}
+use Rattle.matcher_bands.specs.Energy.{Bands, bandsOf}
+use Rattle.matcher_scores.specs.Scores.{termAt}
+use Rattle.matcher_bands.proofs.RowLaws.{tabulate-then, row-within}
+use Rattle.matcher_scores.proofs.scores.sum_bands.Statement.{statement}
+use Rattle.matcher_scores.proofs.scores.sum_bands.Tie as tie
+
+-- what the first b bands add at each of n places
+abbrev sums : Bands → ℕ → List Float → List Float → ℕ → ℕ → ℕ → List Float
+sums reference count query wholes low b n = tabulate (λ (i : ℕ). sumTo (termAt reference count query wholes (low + i)) b) n
+
+abbrev Inv-loop : tie.InvT-loop
+Inv-loop scores₀ reference squares frames query wholes count bands low b₀ scores b =
+    (b ≤ bands) × (length scores ≡ length scores₀) × (scores ≡ sums (bandsOf frames reference squares) count query wholes low b (length scores₀))
+
+abbrev μ-loop : tie.MeasureT-loop
+μ-loop scores₀ reference squares frames query wholes count bands low b₀ scores b = bands - b
+
+loop-holds : tie.Need-loop-holds Inv-loop μ-loop
+unfolding sumTo
+loop-holds c =
+    let v = c .before .before .clear in
+    (omega arith, refl, v .ensures ∙ ap (tabulate (λ (i : ℕ). zero⁺)) (sym (v .kept .0)))
+
+add-nth-requires : tie.Need-add-nth-requires Inv-loop μ-loop
+add-nth-requires c κs =
+    let at = c .before .before in
+    let a = at .before .before .before .before .before .before .before .before .before .before .args in
+    let w = c .before .loop-test .taken in
+    omega (
+      arith,
+      row-within (at .loop .b) (a .bands) (a .frames) w,
+      row-within (at .loop .b) (a .bands) (a .frames + 1) w,
+      row-within (at .loop .b) (a .bands) (a .count) w,
+      at .before .before .before .clear .kept .0,
+    )
+
+loop-again : tie.Need-loop-again Inv-loop μ-loop
+unfolding sumTo
+loop-again c =
+    let at = c .before .before .before .before .before in
+    let a = at .before .before .before .before .before .before .before .before .before .before .args in
+    let b = at .loop .b in
+    let inv = at .loop .inv in
+    let v = c .before .before .add-nth in
+    let t : ℕ → ℕ → Float = λ i. termAt (bandsOf (a .frames) (a .reference .now) (a .squares .now)) (a .count) (a .query .now) (a .wholes .now) (a .low + i) in (
+      omega arith,
+      v .kept .0 ∙ inv .1,
+      v .ensures ∙ rw add-one (tabulate-then (λ (i : ℕ). sumTo (t i) b) (λ (i : ℕ) (s : Float). s ⊕ t i b) nan _ (inv .2)),
+    )
+
+same-length : tie.Need-same-length Inv-loop μ-loop
+same-length c = c .before .loop .inv .1 ∙ c .before .before .before .before .clear .kept .0
+
+returns : tie.Need-returns Inv-loop μ-loop
+returns c =
+    let at = c .before in
+    let e : at .loop .b ≡ at .before .before .before .before .before .before .before .before .before .before .args .bands = omega arith in
+    rw (e, at .before .before .before .clear .kept .0) at (at .loop .inv .2)
+
+pub sum-bands-spec : {M : Type 1} → statement M
+sum-bands-spec =
+    tie.close
+    (tie.spec
+    Inv-loop
+    μ-loop
+    (λ c κs. tt)
+    loop-holds
+    add-nth-requires
+    (λ c. omega arith)
+    (λ c. omega arith)
+    loop-again
+    same-length
+    returns)

@@ -1,0 +1,3 @@
+// Scores of places: the loops that take nearly all of a search's time. Below the matcher, which
+// alone calls it.
+pub mod scores;

@@ -1,0 +1,326 @@
+// The scores of a query's places on a reference. The plain loops: one place after the other, each
+// operation in the Rust's order.
+ghost use Prim.Native.Nat.{ℕ, _+_, _*_, _<_, _≤_};
+ghost use lib.Ieee.{nan};
+ghost use lib.ListN.{getD, length};
+ghost use mathlib.Core.Path.{_≡_};
+ghost use Rattle.matcher_bands.specs.Energy.{bandsOf};
+ghost use Rattle.matcher_bands.specs.Rows.{sumTo, tabulate};
+ghost use Rattle.matcher_scores.specs.Scores.{bandTerm, correlations, dot, partAt, partTerm, product, scorePart, termAt, varianceFloor};
+ghost use Rattle.numbers.specs.Arithmetic.{_⊕_, _⊗_, zero⁺};
+use numbers::float::at_least;
+use numbers::float::real;
+use numbers::float::widen;
+use numbers::root::root;
+
+fn product(left: &[f32], right: &[f32], i: usize) -> f32
+    requires { ⌜ i < length (now left) ⌝ ∗ ⌜ i < length (now right) ⌝ }
+    ensures { λ r. ⌜ r ≡ product (now (left .entry)) (now (right .entry)) i ⌝ }
+{
+    left[i] * right[i]
+}
+
+// Eight lanes over whole chunks of eight, the lanes added in order, then the remainder.
+pub fn dot_product(left: &[f32], right: &[f32]) -> f32
+    requires { ⌜ length (now left) ≡ length (now right) ⌝ }
+    ensures { λ r. ⌜ r ≡ dot (now (left .entry)) (now (right .entry)) ⌝ }
+{
+    let n = left.len();
+    let chunks = n / 8;
+    let mut s0 = 0.0f32;
+    let mut s1 = 0.0f32;
+    let mut s2 = 0.0f32;
+    let mut s3 = 0.0f32;
+    let mut s4 = 0.0f32;
+    let mut s5 = 0.0f32;
+    let mut s6 = 0.0f32;
+    let mut s7 = 0.0f32;
+    let mut k = 0usize;
+    while k < chunks {
+        let b = k * 8;
+        s0 = s0 + product(left, right, b);
+        s1 = s1 + product(left, right, b + 1);
+        s2 = s2 + product(left, right, b + 2);
+        s3 = s3 + product(left, right, b + 3);
+        s4 = s4 + product(left, right, b + 4);
+        s5 = s5 + product(left, right, b + 5);
+        s6 = s6 + product(left, right, b + 6);
+        s7 = s7 + product(left, right, b + 7);
+        k += 1;
+    }
+    let mut sum = 0.0f32 + s0 + s1 + s2 + s3 + s4 + s5 + s6 + s7;
+    let mut i = chunks * 8;
+    while i < n {
+        sum = sum + product(left, right, i);
+        i += 1;
+    }
+    sum
+}
+
+// Energies of n frames below this count as this.
+pub fn variance_floor(n: usize) -> f64
+    ensures { λ r. ⌜ r ≡ varianceFloor n ⌝ }
+{
+    real(n) * 0.001
+}
+
+// What a band adds to the score of the place `start`.
+fn band_term(
+    reference: &[f32],
+    squares: &[f64],
+    query: &[f32],
+    floor: f64,
+    query_energy: f64,
+    start: usize,
+) -> f64
+    requires { ⌜ start + length (now query) ≤ length (now reference) ⌝ ∗ ⌜ length (now reference) < length (now squares) ⌝ }
+    ensures { λ r. ⌜ r ≡ bandTerm (now (reference .entry)) (now (squares .entry)) (now (query .entry)) floor «query_energy» start ⌝ }
+{
+    let end = start + query.len();
+    let dot = widen(dot_product(&reference[start..end], query));
+    let energy = at_least(floor, squares[end] - squares[start]);
+    dot / root(query_energy * energy)
+}
+
+// Adds what a band adds to each score, from the place `low` on.
+fn add_band(
+    scores: &mut [f64],
+    reference: &[f32],
+    squares: &[f64],
+    query: &[f32],
+    floor: f64,
+    query_energy: f64,
+    low: usize,
+)
+    requires { ⌜ low + length (now scores) + length (now query) ≤ length (now reference) + 1 ⌝ ∗ ⌜ length (now reference) < length (now squares) ⌝ }
+    ensures { λ _. ⌜ now (scores .exit) ≡ tabulate (λ (i : ℕ). getD (now (scores .entry)) i nan ⊕ bandTerm (now (reference .entry)) (now (squares .entry)) (now (query .entry)) floor «query_energy» (low + i)) (length (now (scores .entry))) ⌝ }
+{
+    let mut i = 0usize;
+    while i < scores.len() {
+        scores[i] = scores[i] + band_term(reference, squares, query, floor, query_energy, low + i);
+        i += 1;
+    }
+}
+
+// Adds what band b adds to each score.
+fn add_nth(
+    scores: &mut [f64],
+    reference: &[f32],
+    squares: &[f64],
+    frames: usize,
+    query: &[f32],
+    wholes: &[f64],
+    count: usize,
+    low: usize,
+    b: usize,
+)
+    requires { ⌜ b * frames + frames ≤ length (now reference) ⌝ ∗ ⌜ b * (frames + 1) + (frames + 1) ≤ length (now squares) ⌝ }
+    requires { ⌜ b * count + count ≤ length (now query) ⌝ ∗ ⌜ b < length (now wholes) ⌝ }
+    requires { ⌜ low + length (now scores) + count ≤ frames + 1 ⌝ }
+    ensures { λ _. ⌜ now (scores .exit) ≡ tabulate (λ (i : ℕ). getD (now (scores .entry)) i nan ⊕ termAt (bandsOf frames (now (reference .entry)) (now (squares .entry))) count (now (query .entry)) (now (wholes .entry)) (low + i) b) (length (now (scores .entry))) ⌝ }
+{
+    let from = b * frames;
+    let to = from + frames;
+    let start = b * (frames + 1);
+    let end = start + (frames + 1);
+    let at = b * count;
+    let past = at + count;
+    let floor = variance_floor(count);
+    let query_energy = at_least(floor, wholes[b]);
+    add_band(
+        scores,
+        &reference[from..to],
+        &squares[start..end],
+        &query[at..past],
+        floor,
+        query_energy,
+        low,
+    );
+}
+
+fn clear(scores: &mut [f64])
+    ensures { λ _. ⌜ now (scores .exit) ≡ tabulate (λ (i : ℕ). zero⁺) (length (now (scores .entry))) ⌝ }
+{
+    let mut i = 0usize;
+    while i < scores.len() {
+        scores[i] = 0.0;
+        i += 1;
+    }
+}
+
+fn scale(scores: &mut [f64], by: f64)
+    ensures { λ _. ⌜ now (scores .exit) ≡ tabulate (λ (i : ℕ). getD (now (scores .entry)) i nan ⊗ by) (length (now (scores .entry))) ⌝ }
+{
+    let mut i = 0usize;
+    while i < scores.len() {
+        scores[i] = scores[i] * by;
+        i += 1;
+    }
+}
+
+// The sum over the bands at each place.
+fn sum_bands(
+    scores: &mut [f64],
+    reference: &[f32],
+    squares: &[f64],
+    frames: usize,
+    query: &[f32],
+    wholes: &[f64],
+    count: usize,
+    bands: usize,
+    low: usize,
+)
+    requires { ⌜ bands * frames ≤ length (now reference) ⌝ ∗ ⌜ bands * (frames + 1) ≤ length (now squares) ⌝ }
+    requires { ⌜ bands * count ≤ length (now query) ⌝ ∗ ⌜ bands ≤ length (now wholes) ⌝ }
+    requires { ⌜ low + length (now scores) + count ≤ frames + 1 ⌝ }
+    ensures { λ _. ⌜ now (scores .exit) ≡ tabulate (λ (i : ℕ). sumTo (termAt (bandsOf frames (now (reference .entry)) (now (squares .entry))) count (now (query .entry)) (now (wholes .entry)) (low + i)) bands) (length (now (scores .entry))) ⌝ }
+{
+    clear(scores);
+    let mut b = 0usize;
+    while b < bands {
+        add_nth(
+            scores,
+            reference,
+            squares,
+            frames,
+            query,
+            wholes,
+            count,
+            low,
+            b,
+        );
+        b += 1;
+    }
+}
+
+// The scores of as many places as `scores` has, from `low` on. The reference's bands have `frames`
+// values each and the query's `count`; `wholes` are the query's whole energies.
+pub fn correlations(
+    scores: &mut [f64],
+    reference: &[f32],
+    squares: &[f64],
+    frames: usize,
+    query: &[f32],
+    wholes: &[f64],
+    count: usize,
+    bands: usize,
+    low: usize,
+)
+    requires { ⌜ bands * frames ≤ length (now reference) ⌝ ∗ ⌜ bands * (frames + 1) ≤ length (now squares) ⌝ }
+    requires { ⌜ bands * count ≤ length (now query) ⌝ ∗ ⌜ bands ≤ length (now wholes) ⌝ }
+    requires { ⌜ low + length (now scores) + count ≤ frames + 1 ⌝ }
+    ensures { λ _. ⌜ now (scores .exit) ≡ correlations bands (bandsOf frames (now (reference .entry)) (now (squares .entry))) count (now (query .entry)) (now (wholes .entry)) low (length (now (scores .entry))) ⌝ }
+{
+    sum_bands(
+        scores,
+        reference,
+        squares,
+        frames,
+        query,
+        wholes,
+        count,
+        bands,
+        low,
+    );
+    scale(scores, 1.0 / real(bands));
+}
+
+// What a band adds to the score of the query's part from `low` up to `high`.
+fn part_term(
+    reference: &[f32],
+    squares: &[f64],
+    query: &[f32],
+    query_squares: &[f64],
+    start: usize,
+    low: usize,
+    high: usize,
+) -> f64
+    requires { ⌜ low ≤ high ⌝ ∗ ⌜ start + high ≤ length (now reference) ⌝ ∗ ⌜ length (now reference) < length (now squares) ⌝ }
+    requires { ⌜ high ≤ length (now query) ⌝ ∗ ⌜ length (now query) < length (now «query_squares») ⌝ }
+    ensures { λ r. ⌜ r ≡ partTerm (now (reference .entry)) (now (squares .entry)) (now (query .entry)) (now («query_squares» .entry)) start low high ⌝ }
+{
+    let floor = variance_floor(high - low);
+    let from = start + low;
+    let to = start + high;
+    let dot = widen(dot_product(&reference[from..to], &query[low..high]));
+    let energy = at_least(floor, squares[to] - squares[from]);
+    let query_energy = at_least(floor, query_squares[high] - query_squares[low]);
+    dot / root(energy * query_energy)
+}
+
+// What band b adds to the score of the query's part.
+fn part_nth(
+    reference: &[f32],
+    squares: &[f64],
+    frames: usize,
+    query: &[f32],
+    query_squares: &[f64],
+    count: usize,
+    start: usize,
+    low: usize,
+    high: usize,
+    b: usize,
+) -> f64
+    requires { ⌜ b * frames + frames ≤ length (now reference) ⌝ ∗ ⌜ b * (frames + 1) + (frames + 1) ≤ length (now squares) ⌝ }
+    requires { ⌜ b * count + count ≤ length (now query) ⌝ ∗ ⌜ b * (count + 1) + (count + 1) ≤ length (now «query_squares») ⌝ }
+    requires { ⌜ low ≤ high ⌝ ∗ ⌜ high ≤ count ⌝ ∗ ⌜ start + count ≤ frames ⌝ }
+    ensures { λ r. ⌜ r ≡ partAt (bandsOf frames (now (reference .entry)) (now (squares .entry))) (bandsOf count (now (query .entry)) (now («query_squares» .entry))) start low high b ⌝ }
+{
+    let from = b * frames;
+    let to = from + frames;
+    let first = b * (frames + 1);
+    let last = first + (frames + 1);
+    let at = b * count;
+    let past = at + count;
+    let begin = b * (count + 1);
+    let end = begin + (count + 1);
+    part_term(
+        &reference[from..to],
+        &squares[first..last],
+        &query[at..past],
+        &query_squares[begin..end],
+        start,
+        low,
+        high,
+    )
+}
+
+// The score of the query's part from `low` up to `high`, where the query stands at the place
+// `start`.
+pub fn score_part(
+    reference: &[f32],
+    squares: &[f64],
+    frames: usize,
+    query: &[f32],
+    query_squares: &[f64],
+    count: usize,
+    bands: usize,
+    start: usize,
+    low: usize,
+    high: usize,
+) -> f64
+    requires { ⌜ bands * frames ≤ length (now reference) ⌝ ∗ ⌜ bands * (frames + 1) ≤ length (now squares) ⌝ }
+    requires { ⌜ bands * count ≤ length (now query) ⌝ ∗ ⌜ bands * (count + 1) ≤ length (now «query_squares») ⌝ }
+    requires { ⌜ low ≤ high ⌝ ∗ ⌜ high ≤ count ⌝ ∗ ⌜ start + count ≤ frames ⌝ }
+    ensures { λ r. ⌜ r ≡ scorePart bands (bandsOf frames (now (reference .entry)) (now (squares .entry))) (bandsOf count (now (query .entry)) (now («query_squares» .entry))) start low high ⌝ }
+{
+    let mut score = 0.0f64;
+    let mut b = 0usize;
+    while b < bands {
+        score = score
+            + part_nth(
+                reference,
+                squares,
+                frames,
+                query,
+                query_squares,
+                count,
+                start,
+                low,
+                high,
+                b,
+            );
+        b += 1;
+    }
+    score / real(bands)
+}
