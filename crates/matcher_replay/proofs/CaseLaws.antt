@@ -1,0 +1,75 @@
+-- What a case within the limits gives: its numbers' bounds, and that its bands fit the arrays. Assumes nothing.
+use mathlib.Core.Path.{_≡_}
+use mathlib.Core.Bool.{Bool, true, _&&_}
+use Prim.Native.Nat.{ℕ, _+_, _*_, _/_, _≤_, _<_}
+use native.Mathlib.Nat.{mul-le-mul, mul-le-mul-right}
+use native.Mathlib.Omega.{arith}
+use borrow.Author.Tests.{ltb-true, leb-true}
+use Rattle.matcher_bands.specs.Centring.{wideHop}
+use Rattle.matcher.proofs.SearchLaws.{and-left, and-right}
+use Rattle.matcher_replay.specs.Cases.{isSmall}
+use Rattle.matcher_replay.specs.declared.case.Case.{Case}
+
+both : (a b : Bool) → a && b ≡ true → (a ≡ true) × (b ≡ true)
+both a b h = (and-left a b h, and-right a b h)
+
+pub record Limits (c : Case) : Type 0 where
+  pub seed : c .seed < 65536
+  pub wide : wideHop (c .hop) ≡ true
+  pub period : 0 < c .period
+  pub some : 0 < c .bands
+  pub bands : c .bands ≤ 4
+  pub long : 0 < c .frames
+  pub frames : c .frames ≤ 400
+  pub heard : 0 < c .window
+  pub window : c .window ≤ 120
+  pub from : c .from ≤ 400
+
+limits : (c : Case) → isSmall c ≡ true → Limits c
+unfolding isSmall
+limits c h =
+    let a = both _ _ h in
+    let b = both _ _ (a .1) in
+    let d = both _ _ (b .1) in
+    let e = both _ _ (d .1) in
+    let f = both _ _ (e .1) in
+    let g = both _ _ (f .1) in
+    let i = both _ _ (g .1) in
+    let j = both _ _ (i .1) in
+    let k = both _ _ (j .1) in
+    record {
+      seed = ltb-true _ _ (a .0);
+      wide = b .0;
+      period = ltb-true _ _ (d .0);
+      some = ltb-true _ _ (e .0);
+      bands = leb-true _ _ (f .0);
+      long = ltb-true _ _ (g .0);
+      frames = leb-true _ _ (i .0);
+      heard = ltb-true _ _ (j .0);
+      window = leb-true _ _ (k .0);
+      from = leb-true _ _ (k .1);
+    }
+
+-- What b bands of n values need: b * n values, and one energy more each.
+pub record Sizes (b n values energies : ℕ) : Type 0 where
+  pub all : b * n ≤ values
+  pub sums : b * (n + 1) ≤ energies
+  pub rows : b * n ≤ 64 * n
+
+sizes : {b n : ℕ} (m : ℕ) → b ≤ 4 → n ≤ m → Sizes b n (4 * m) (4 * (m + 1))
+sizes {b} {n} m h k =
+    let l : n + 1 ≤ m + 1 = omega arith in
+    let w : b ≤ 64 = omega arith in
+    record { all = mul-le-mul h k; sums = mul-le-mul h l; rows = mul-le-mul-right n w }
+
+pub record Small (c : Case) : Type 0 where
+  pub limit : Limits c
+  pub fine : Sizes (c .bands) (c .frames) 1600 1604
+  pub coarse : Sizes (c .bands) (c .frames / 4) 400 404
+  pub query : Sizes (c .bands) (c .window) 480 484
+
+pub small : (c : Case) → isSmall c ≡ true → Small c
+small c h =
+    let l = limits c h in
+    let q : c .frames / 4 ≤ 100 = omega arith in
+    record { limit = l; fine = sizes 400 (l .bands) (l .frames); coarse = sizes 100 (l .bands) q; query = sizes 120 (l .bands) (l .window) }

@@ -1,0 +1,21 @@
+-- `matcher_replay::float_of` is safe: a pattern up to plus infinity's is no NaN's. Assumes nothing.
+use mathlib.Core.Path.{sym, _∙_, subst}
+use mathlib.Core.Bool.{not}
+use Prim.Native.Nat.{_%_, _≤_}
+use native.Mathlib.Omega.{arith}
+use lib.Dec.{T}
+use lib.Ieee.{binary64}
+use lib.Ieee.Bits.{nanBits-above}
+use borrow.Author.Needs.{needs}
+use borrow.Author.Tests.{le-ltb}
+use Rattle.matcher_replay.proofs.float_of.Statement.{statement}
+use Rattle.matcher_replay.proofs.float_of.Tie as tie
+
+float-from-bits-result : tie.Need-float-from-bits-result
+float-from-bits-result c =
+    let b = c .before .args .bits in
+    let h : b % 9223372036854775808 ≤ 9218868437227405312 = omega arith in
+    subst (λ z. T (not z)) (sym (nanBits-above binary64 b ∙ le-ltb _ _ h)) tt
+
+pub float-of-spec : {M : Type 1} → statement M
+float-of-spec = tie.close (tie.spec float-from-bits-result (λ c. search needs) (λ c. search needs))
