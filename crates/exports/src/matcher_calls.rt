@@ -4,7 +4,7 @@ ghost use Prim.Native.Nat.{_≤_};
 ghost use lib.ListN.{drop, length};
 ghost use mathlib.Core.List.{_++_};
 ghost use mathlib.Core.Path.{_≡_};
-ghost use Rattle.exports.specs.MatcherCalls.{Buffers, buffers, counted, fillAnswer, filledBuffers, fitsBands, fitsFillLengths, fitsLimits, fitsLocal, fitsLocalLengths, fitsWhole, fitsWindow, foundIn, foundNear, numbersOf, referenceOf, written};
+ghost use Rattle.exports.specs.MatcherCalls.{buffers, counted, fillAnswer, filledBuffers, fitsBands, fitsFillLengths, fitsLimits, fitsLocal, fitsLocalLengths, fitsWhole, fitsWindow, foundIn, foundNear, numbersOf, referenceOf, written};
 ghost use Rattle.matcher.specs.Search.{windowOf};
 use matcher::index::Reference;
 use matcher::index::fill_index;

@@ -1,5 +1,5 @@
 // The index: what opening fills from a reference, and what a search knows of it.
-ghost use Prim.Native.Nat.{ℕ, _+_, _*_, _/_, _<_, _≤_};
+ghost use Prim.Native.Nat.{_+_, _*_, _/_, _<_, _≤_};
 ghost use lib.ListN.{drop, length};
 ghost use mathlib.Core.Bool.{true};
 ghost use mathlib.Core.List.{_++_};

@@ -1,6 +1,5 @@
 // Candidates: their order, the 750 rule, the result and its margin.
 ghost use Prim.Native.Nat.{_+_, _<_, _≤_};
-ghost use lib.ListN.{length, take};
 ghost use mathlib.Core.List.{[], _∷_, _++_};
 ghost use mathlib.Core.Path.{_≡_};
 ghost use Rattle.matcher_picks.specs.Candidates.{blank, crowded, independent, insert, listed, marginOf, resultOf};
@@ -71,7 +70,7 @@ pub fn insert_by_score(result: MatchResult, c: Candidate) -> MatchResult
     }
 }
 
-// Whether c is nearer than 750 to one of the first n candidates.
+// Whether c is nearer than 750 to a candidate of the result.
 fn is_crowded(result: MatchResult, c: Candidate) -> bool
     requires { ⌜ result .count ≤ 8 ⌝ }
     ensures { λ r. ⌜ r ≡ crowded (listed result) c ⌝ }
