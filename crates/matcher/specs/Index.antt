@@ -8,7 +8,7 @@ use lib.Ieee.{Float, nan}
 use Rattle.matcher_bands.specs.Rows.{rows, row}
 use Rattle.matcher_bands.specs.Timeline.{regular, validValues}
 use Rattle.matcher_bands.specs.Centring.{radius, centred}
-use Rattle.matcher_bands.specs.Energy.{Bands, bandsOf, withEnergies, reduced}
+use Rattle.matcher_bands.specs.Energy.{Bands, bandsOf, withEnergies, reduced, reduction}
 use Rattle.matcher.specs.declared.index.Reference.{Reference}
 
 -- The matcher: bands, frames, start and hop of the reference, its bands as they are and averaged by fours.
@@ -47,5 +47,5 @@ abbrev pub lentMatcher : Reference → List Float → List Float → List Float 
 lentMatcher x fine coarse fineSquares coarseSquares = record {
   reference = x;
   fine = lentBands (x .bands) (x .frames) fine fineSquares;
-  coarse = lentBands (x .bands) (x .frames / 4) coarse coarseSquares;
+  coarse = lentBands (x .bands) (x .frames / reduction) coarse coarseSquares;
 }

@@ -1,6 +1,6 @@
 -- Whole and local search (document 01, Matcher; matcher.rs, `match_query`). Definitions only.
 use Prim.Native.Nat.{ℕ, _+_, _-_, _*_, _/_, min, max}
-use mathlib.Core.Bool.{Bool, cond, not, _&&_}
+use mathlib.Core.Bool.{Bool, cond, _&&_}
 use mathlib.Core.List.{List, [], _∷_}
 use lib.Dec.{leb, ltb}
 use lib.ListN.{length, getD}
@@ -12,7 +12,7 @@ use Rattle.numbers.specs.Whole.{wholeAbove, wholeBelow}
 use Rattle.matcher_bands.specs.Rows.{rows, row}
 use Rattle.matcher_bands.specs.Timeline.{accepts, validValues}
 use Rattle.matcher_bands.specs.Centring.{radius, centred, kept}
-use Rattle.matcher_bands.specs.Energy.{Bands, withEnergies, reduced, totals}
+use Rattle.matcher_bands.specs.Energy.{Bands, withEnergies, reduced, reduction, totals}
 use Rattle.matcher_scores.specs.Scores.{correlations, scorePart}
 use Rattle.matcher_picks.specs.Peaks.{firstMaximum, peaks}
 use Rattle.matcher_picks.specs.Candidates.{sorted, independent, apartMs}
@@ -29,12 +29,16 @@ pub record Window : Type 0 where
 abbrev pub windowOf : ℕ → List Float → List Float → Window
 windowOf bands times values = record { bands = bands; times = times; values = values }
 
+-- So many centred frames are too few.
+abbrev pub tooFew : ℕ
+tooFew = 16
+
 -- Whether a search begins: an accepted timeline, more than 2R + 16 frames, values that a band may hold, and no more centred frames than the reference has.
 unfoldable pub searchable : Reference → Window → Bool
 searchable x w =
     let r = radius (x .«hop_ms») in
     accepts (x .bands) (x .«hop_ms») (w .bands) (w .times)
-    && (ltb (2 * r + 16) (length (w .times))
+    && (ltb (2 * r + tooFew) (length (w .times))
     && (validValues (w .values) && leb (length (w .times) - 2 * r) (x .frames)))
 
 -- Each band of the window, centred and cut.
@@ -106,12 +110,12 @@ module _ (x : Reference) (fine query : Bands) (start : Float) where
   maximumStart = x .frames - query .count
 
   -- ---- whole search
-  -- Up to 4 frames either side of a peak of the averaged scores are scored again.
+  -- Up to 4 frames (as many as one average has) either side of a peak of the averaged scores are scored again.
   abbrev pub rangeLow : ℕ → ℕ
-  rangeLow peak = peak * 4 - 4
+  rangeLow peak = peak * reduction - reduction
 
   abbrev pub rangeHigh : ℕ → ℕ
-  rangeHigh peak = min maximumStart (peak * 4 + 4)
+  rangeHigh peak = min maximumStart (peak * reduction + reduction)
 
   unfoldable pub candidatesAt : List ℕ → List Candidate
   candidatesAt [] = []
@@ -144,7 +148,7 @@ coarseScores bands coarse query =
 
 -- Peaks are 750 / (4 × hop) averaged places apart, at least 1.
 unfoldable pub separation : Float → ℕ
-separation hop = max 1 (countOf (apartMs ⊘ (hop ⊗ real 4)))
+separation hop = max 1 (countOf (apartMs ⊘ (hop ⊗ real reduction)))
 
 -- ---- the searches
 unfoldable pub wholeSearch : Matcher → Window → List Candidate

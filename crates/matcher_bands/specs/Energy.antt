@@ -36,6 +36,9 @@ unfoldable pub totals : ℕ → Bands → List Float
 totals bands x = tabulate (λ (b : ℕ). getD (x .squares) (b * suc (x .count) + x .count) nan) bands
 
 -- ---- averages by fours
+abbrev pub reduction : ℕ
+reduction = 4
+
 -- 0.0 and 4.0 in f32
 abbrev pub zeroF32 : Float
 zeroF32 = ofBits binary32 0
@@ -53,7 +56,7 @@ average v at = div binary32 (zeroF32 +₃₂ getD v at nan +₃₂ getD v (at + 
 
 -- A row averaged by fours; what is left of a four at its end is dropped.
 abbrev pub averages : List Float → List Float
-averages v = tabulate (λ (k : ℕ). average v (k * 4)) (length v / 4)
+averages v = tabulate (λ (k : ℕ). average v (k * reduction)) (length v / reduction)
 
 -- Each band averaged by fours, of bands with n values each.
 abbrev pub allAverages : ℕ → ℕ → List Float → List Float
@@ -61,4 +64,4 @@ allAverages bands n v = rows (λ (b : ℕ). averages (row n v b)) bands
 
 -- `Bands::reduced`: the bands averaged by fours.
 abbrev pub reduced : ℕ → Bands → Bands
-reduced bands x = withEnergies bands (x .count / 4) (allAverages bands (x .count) (x .values))
+reduced bands x = withEnergies bands (x .count / reduction) (allAverages bands (x .count) (x .values))
