@@ -33,10 +33,7 @@ fn main() -> ExitCode {
 
 /// Every part of the port beside the Rust's.
 fn check(effort: Effort) -> bool {
-    let parts = [
-        numbers::check::check(effort),
-        matcher::check::check(effort),
-    ];
+    let parts = [numbers::check::check(effort), matcher::check::check(effort)];
     parts.into_iter().all(|same| same)
 }
 

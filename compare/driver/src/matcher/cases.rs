@@ -93,7 +93,9 @@ pub fn small(n: u64) -> Case {
         2 => frames.saturating_sub(2 * radius(hop) + 1),
         _ => frames + random.below(200),
     };
-    make(&mut random, hop, bands, reference_frames, frames)
+    let mut case = make(&mut random, hop, bands, reference_frames, frames);
+    flaw(&mut random, &mut case);
+    case
 }
 
 /// Case n of the largest sizes: 65,535 frames and 64 bands, a window of 1,024 frames.
@@ -102,7 +104,8 @@ pub fn largest(n: u64) -> Case {
         seed: pattern(!n),
         drawn: 0,
     };
-    make(&mut random, 20.0, 64, 65_535, 1_024)
+    let hop = [20.0, 23.22, 1.0, 250.0][n as usize % 4];
+    make(&mut random, hop, 64, 65_535, 1_024)
 }
 
 /// A case for measuring: a window cut out of noise.
@@ -160,27 +163,18 @@ fn make(
 ) -> Case {
     let kind = kind(random);
     let start = start(random);
-    let mut reference = Frames {
+    let reference = Frames {
         bands,
         times: regular(start, hop, reference_frames),
         values: sound(random, kind, bands, reference_frames),
     };
     let at = random.below(reference_frames.max(1));
     let begin = self::start(random);
-    let window_bands = if random.one_in(25) { bands + 1 } else { bands };
-    let mut window = Frames {
-        bands: window_bands,
+    let window = Frames {
+        bands,
         times: regular(begin, hop, frames),
-        values: heard(random, &reference, window_bands, at, frames),
+        values: heard(random, &reference, at, frames),
     };
-    jitter(random, &mut reference.times, hop);
-    jitter(random, &mut window.times, hop);
-    if random.one_in(20) {
-        spoil(random, &mut reference.values);
-    }
-    if random.one_in(20) {
-        spoil(random, &mut window.values);
-    }
     let offset = start + at as f64 * hop - begin;
     let ranges = (0..3).map(|_| range(random, offset, hop)).collect();
     Case {
@@ -188,6 +182,25 @@ fn make(
         reference,
         window,
         ranges,
+    }
+}
+
+/// What a search may have to turn down: times off their places, values that no band may hold,
+/// another number of bands.
+fn flaw(random: &mut Random, case: &mut Case) {
+    if random.one_in(25) {
+        let kind = kind(random);
+        let bands = case.window.bands + 1;
+        case.window.values = sound(random, kind, bands, case.window.len());
+        case.window.bands = bands;
+    }
+    jitter(random, &mut case.reference.times, case.hop);
+    jitter(random, &mut case.window.times, case.hop);
+    if random.one_in(20) {
+        spoil(random, &mut case.reference.values);
+    }
+    if random.one_in(20) {
+        spoil(random, &mut case.window.values);
     }
 }
 
@@ -251,15 +264,10 @@ fn noise(random: &mut Random) -> f32 {
 
 /// What a window hears of the reference from frame `at` on: the same, louder or softer, with or
 /// without noise, or something else.
-fn heard(
-    random: &mut Random,
-    reference: &Frames,
-    bands: usize,
-    at: usize,
-    frames: usize,
-) -> Vec<f32> {
+fn heard(random: &mut Random, reference: &Frames, at: usize, frames: usize) -> Vec<f32> {
+    let bands = reference.bands;
     let other = kind(random);
-    if bands != reference.bands || random.one_in(8) {
+    if random.one_in(8) {
         return sound(random, other, bands, frames);
     }
     let gain = random.one_of(&[1.0f32, 1.0, 0.5, 0.8, 3.0]);

@@ -53,7 +53,7 @@ impl Tally {
 
 pub fn check(effort: Effort) -> bool {
     let tally = Tally::default();
-    let (cases, largest) = effort.pick((6_000, 1), (150_000, 4));
+    let (cases, largest) = effort.pick((6_000, 1), (150_000, 12));
     run(effort, cases, &tally, cases::small);
     run(effort, largest, &tally, cases::largest);
     let read = |count: &AtomicU64| count.load(Relaxed);

@@ -155,6 +155,10 @@ fn digest(candidates: &[Candidate]) -> u64 {
 
 /// As digest.rt of matcher_replay has it.
 fn with(word: u64, x: f64) -> u64 {
-    let bits = if x.is_nan() { 0x7ff8 << 48 } else { x.to_bits() };
+    let bits = if x.is_nan() {
+        0x7ff8 << 48
+    } else {
+        x.to_bits()
+    };
     word.rotate_left(9).wrapping_add(bits)
 }

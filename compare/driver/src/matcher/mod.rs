@@ -2,8 +2,8 @@
 
 pub mod bench;
 mod case;
-pub mod check;
 mod cases;
+pub mod check;
 pub mod list;
 mod ours;
 mod theirs;
