@@ -24,7 +24,7 @@ too-short : (x : Reference) (w : Window) → x .«hop_ms» ≡ twenty → length
 unfolding searchable
 too-short x w e h = rw (e, radius-is, h) (and-false (accepts (x .bands) twenty (w .bands) (w .times)))
 
-p3 : P3 twenty
+p3 : P3
 unfolding wholeSearch localSearch
 p3 = record {
   radius-13 = radius-is;

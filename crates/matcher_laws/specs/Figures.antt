@@ -40,7 +40,7 @@ abbrev pub threeTenths : Float
 threeTenths = ofBits binary64 0x3fd3333333333333
 
 -- P3 at a hop: the radius is 13;
-pub record P3 (hop : Float) : Type 0 where
+pub record P3At (hop : Float) : Type 0 where
   pub radius-13 : radius hop ≡ 13
   -- 42 frames give no candidates, in a whole and in a local search, whatever the matcher of this hop and the window;
   pub none-from-42 : (m : Matcher) (w : Window) → m .reference .«hop_ms» ≡ hop → length (w .times) ≡ 42 → wholeSearch m w ≡ []
@@ -49,12 +49,24 @@ pub record P3 (hop : Float) : Type 0 where
   pub enough-43 : 2 * radius hop + 16 < 43
   pub leave-17 : (values : List Float) → length values ≡ 43 → length (kept (radius hop) (centred (radius hop) values)) ≡ 17
 
+-- hop 20: R 13; 42 frames give no candidates, 43 leave 17 centred
+abbrev pub P3 : Type 0
+P3 = P3At twenty
+
+-- hop 20: times 0, 20.5 regular; 0, 21 not
+abbrev pub P5 : Type 0
+P5 = (regular twenty (zero⁺ ∷ twentyAndHalf ∷ []) ≡ true) × (regular twenty (zero⁺ ∷ twentyOne ∷ []) ≡ false)
+
+-- scores 5, 4, 1, 5, separation 2: peaks 0, 3
+abbrev pub P11 : Type 0
+P11 = peaks (fiveScore ∷ fourScore ∷ one ∷ fiveScore ∷ []) 2 ≡ 0 ∷ 3 ∷ []
+
+-- lone score 0.3: margin 0.3
+abbrev pub P12 : Type 0
+P12 = (c : Candidate) → c .score ≡ threeTenths → marginOf (c ∷ []) ≡ threeTenths
+
 pub record Figures : Type 0 where
-  -- hop 20: R 13; 42 frames give no candidates, 43 leave 17 centred
-  pub p3 : P3 twenty
-  -- hop 20: times 0, 20.5 regular; 0, 21 not
-  pub p5 : (regular twenty (zero⁺ ∷ twentyAndHalf ∷ []) ≡ true) × (regular twenty (zero⁺ ∷ twentyOne ∷ []) ≡ false)
-  -- scores 5, 4, 1, 5, separation 2: peaks 0, 3
-  pub p11 : peaks (fiveScore ∷ fourScore ∷ one ∷ fiveScore ∷ []) 2 ≡ 0 ∷ 3 ∷ []
-  -- lone score 0.3: margin 0.3
-  pub p12 : (c : Candidate) → c .score ≡ threeTenths → marginOf (c ∷ []) ≡ threeTenths
+  pub p3 : P3
+  pub p5 : P5
+  pub p11 : P11
+  pub p12 : P12

@@ -1,0 +1,30 @@
+-- The ranges that document 01 sets, each under one name. Definitions only.
+use Prim.Native.Nat.{ℕ}
+use lib.Ieee.{Float, binary64, ofBits}
+use Rattle.numbers.specs.Arithmetic.{one}
+
+-- A hop from 1 to 1,000.
+abbrev pub hopLeast : Float
+hopLeast = one
+
+abbrev pub hopMost : Float
+hopMost = ofBits binary64 0x408f400000000000
+
+-- A reference of 65,535 frames at most, and a window of 1,024.
+abbrev pub framesMost : ℕ
+framesMost = 65535
+
+abbrev pub windowMost : ℕ
+windowMost = 1024
+
+-- Of either, 64 bands at most.
+abbrev pub bandsMost : ℕ
+bandsMost = 64
+
+-- 10^12: no time lies further from 0,
+abbrev pub farthestMs : Float
+farthestMs = ofBits binary64 0x426d1a94a2000000
+
+-- 10^13: and no number of a track or an estimate that a state holds.
+abbrev pub trackMost : Float
+trackMost = ofBits binary64 0x42a2309ce5400000
