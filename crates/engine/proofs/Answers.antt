@@ -19,6 +19,7 @@ use Rattle.engine.specs.Readiness.{isNone}
 use Rattle.engine.specs.Tracking.{Tracked, tracked, followed, supports, mayCoast}
 use Rattle.engine.specs.Locking.{Reached, Searched, searched, wholeDue, wholeSearched, passed, passing, confirms, firstEvidence, keptOrReplaced}
 use Rattle.engine.specs.Publishing.{Verdict, Decision, publish, ready, unready, verdictOf, ambiguous, candidatesShown, candidateArray}
+use Rattle.engine.specs.SupportAge.{isLocked}
 use Rattle.engine.specs.Chain.{silent, bestOffset}
 use Rattle.engine.specs.Guarantee.{Shows}
 use Rattle.engine.specs.Reached.{unreachable}
@@ -163,17 +164,6 @@ unfolding unreachable
 usual-on true h = refl
 usual-on false h = absurd h
 
-isLocked : State → Bool
-isLocked state.Ready = false
-isLocked state.Listening = false
-isLocked state.Locking = false
-isLocked state.Confirmed = false
-isLocked state.Locked = true
-isLocked state.Drifting = false
-isLocked state.Relocking = false
-isLocked state.Lost = false
-isLocked state.Failed = false
-
 not-locked : (confirmed : Bool) → cond confirmed state.Relocking state.Locking ≡ state.Locked → ⊥
 unfolding isLocked
 not-locked true h = subst (λ (s : State). T (not (isLocked s))) h tt
@@ -230,10 +220,10 @@ module _ (x : Searched) (now : RecordedMs) where
       (λ h. fast (record { estimate = tt; coast = refl; within = h })) (λ h. free (not-locked (x .reached .confirmed)))
 
 -- What the snapshot of a searched window shows.
-pub viewed : (s : Settings) (w : Window) (se : Searched) (m : Matcher) (k : Reached) (l : Lock) (ms : Milestones) → T (finite (evidence (s .«hop_ms») w .0)) → (lock : Bool)
+pub viewed : (s : Settings) (w : Window) (se : Searched) (l : Lock) (ms : Milestones) → T (finite (evidence (s .«hop_ms») w .0)) → (lock : Bool)
     → Track (evidence (s .«hop_ms») w) lock (l .accepted) (se .lock .accepted) (se .supported) → View (s .«hop_ms») w se (publish s w (ready (s .«hop_ms») w se) ms)
 unfolding publish
-viewed s w se m k l ms f lock t =
+viewed s w se l ms f lock t =
     let now = evidence (s .«hop_ms») w in
     let a = se .lock .accepted in
     record {

@@ -175,7 +175,7 @@ module _ (s : Settings) (m : Matcher) (a : ℕ → Answered) where
   ready-made n k l ms f nh tm new rd tr v =
       let se = searched m hop (w n) k l in
       let x : Effects m hop (w n) k l se = effects m hop (w n) k l in
-      let y : View hop (w n) se (shownAt hop a n) = subst (λ (z : Snapshot). View hop (w n) se z) (sym v) (viewed s (w n) se m k l ms (tm .evidence n (le-refl (suc n))) (x .lock) (x .track)) in
+      let y : View hop (w n) se (shownAt hop a n) = subst (λ (z : Snapshot). View hop (w n) se z) (sym v) (viewed s (w n) se l ms (tm .evidence n (le-refl (suc n))) (x .lock) (x .track)) in
       let o = pend-step hop a n (y .loud) m k (l .pending) se (se .global) (se .found) (x .lock) f nh tm rd (y .shown) (x .pend) in
       let acc : Accepted hop a (suc n) (se .lock .accepted) = track-step hop a n (x .lock) (l .accepted) (se .lock .accepted) (se .supported) (y .loud) (y .reason) (o .ends) tr (x .track) in
       record {

@@ -60,9 +60,9 @@ good-fresh s m g = record { settings = refl; safe = g .fresh; shown = refl }
 -- ---- a refusal is never a computed answer
 pub refusal-struck : (r : Answer) → refuses r ≡ true → isComputed r ≡ false
 unfolding numberOf isComputed
-refusal-struck answer.Opened q = refl
+refusal-struck answer.Opened q = clash (sym q)
 refusal-struck answer.Computed q = clash (sym q)
-refusal-struck answer.Reread q = refl
+refusal-struck answer.Reread q = clash (sym q)
 refusal-struck answer.InvalidConfiguration q = refl
 refusal-struck answer.HopOutOfRange q = refl
 refusal-struck answer.ReferenceTooLarge q = refl
