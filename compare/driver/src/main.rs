@@ -5,6 +5,7 @@ mod family;
 mod matcher;
 mod numbers;
 mod progress;
+mod sessions;
 mod value;
 
 use compare::Effort;
@@ -12,7 +13,8 @@ use std::io::Write;
 use std::process::ExitCode;
 use std::{env, io};
 
-const USAGE: &str = "usage: run [--quick | --bench | --list | --matcher-list | --samples]";
+const USAGE: &str =
+    "usage: run [--quick | --bench | --list | --matcher-list | --sessions | --samples]";
 
 fn main() -> ExitCode {
     let words: Vec<String> = env::args().skip(1).collect();
@@ -23,6 +25,7 @@ fn main() -> ExitCode {
         ["--bench"] => print(&(numbers::bench::table() + "\n" + &matcher::bench::table())),
         ["--list"] => print(&numbers::list::lines()),
         ["--matcher-list"] => print(&matcher::list::lines()),
+        ["--sessions"] => print_sessions(),
         ["--samples"] => print(&numbers::samples::lines()),
         _ => {
             eprintln!("{USAGE}");
@@ -33,7 +36,11 @@ fn main() -> ExitCode {
 
 /// Every part of the port beside the Rust's.
 fn check(effort: Effort) -> bool {
-    let parts = [numbers::check::check(effort), matcher::check::check(effort)];
+    let parts = [
+        numbers::check::check(effort),
+        matcher::check::check(effort),
+        sessions::check(),
+    ];
     parts.into_iter().all(|same| same)
 }
 
@@ -44,6 +51,17 @@ fn verdict(same: bool) -> ExitCode {
     } else {
         println!("there are differences");
         ExitCode::FAILURE
+    }
+}
+
+/// Writes the sessions' definitions, and prints what each session shows.
+fn print_sessions() -> ExitCode {
+    match sessions::write() {
+        Ok(()) => print(&sessions::lines()),
+        Err(error) => {
+            eprintln!("the sessions cannot be written: {error}");
+            ExitCode::FAILURE
+        }
     }
 }
 

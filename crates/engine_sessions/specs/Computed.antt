@@ -1,0 +1,31 @@
+-- Submission with all that it computes with: `unfolding submitNow` unfolds every definition below it. Definitions only.
+use lib.Ieee.{neg, add, sub, mul, div, lt, le, eq, isNan, ofInt, toUnsigned, ofBits, toBits}
+use Rattle.numbers.specs.Whole.{wholeNearest, wholeBelow, wholeAbove}
+use Rattle.numbers.specs.Narrow.{nearestF32}
+use Rattle.numbers.specs.Root.{rootOf}
+use Rattle.numbers.specs.Exponential.{expSeries, twoTo, expOf, tenTo}
+use Rattle.numbers.specs.Logarithm.{logSeries, logOf, log1pOf, log10Of}
+use Rattle.number_laws.specs.Values.{magnitude}
+use Rattle.matcher_bands.specs.Rows.{tabulate, rows, allTo, sumTo}
+use Rattle.matcher_bands.specs.Timeline.{onTime, regular, accepts, validValues}
+use Rattle.matcher_bands.specs.Centring.{contextFrames, radius, logs, meanAround, centredAt, centred}
+use Rattle.matcher_bands.specs.Energy.{totals, average}
+use Rattle.matcher_scores.specs.Scores.{lane, lanes, onward, dot, varianceFloor, bandTerm, termAt, correlationAt, correlations, partTerm, partAt, scorePart}
+use Rattle.matcher_picks.specs.Peaks.{maximumTo, nearTo, freeTo, peaksFrom}
+use Rattle.matcher_picks.specs.Candidates.{insert, sortInto, crowded, independentFrom, marginOf}
+use Rattle.matcher.specs.Index.{acceptsReference, matcherOf}
+use Rattle.matcher.specs.Search.{searchable, queryOf, vertex, fraction, candidateOf, candidateIn, candidatesAt, localFound, coarseScores, separation, wholeSearch, localSearch}
+use Rattle.engine.specs.Windows.{evidence, jumpsFrom, rereadsFrom}
+use Rattle.engine.specs.Refusals.{numberOf, every, validConfiguration, indexFits, openingRefusal, validSettings, validHypothesis, validLock, validMilestone, validMilestones, validEndpoint, validEstimate, validLast, validEngine, validWindow, workFits, Submission, handedRefusal, submissionRefusal}
+use Rattle.engine.specs.Opening.{blankSnapshot, freshEngine, noEngine, opening, fills, openedIndex}
+use Rattle.engine.specs.Readiness.{tally, activeFraction, meanPower, averageEnergy, readiness, isNone}
+use Rattle.engine.specs.Tracking.{supports, gain, movedOffset, followed, tracked}
+use Rattle.engine.specs.Locking.{least, passing, firstEvidence, holds, heldOrDropped, confirms, keptOrReplaced, passed, wholeSearched, searched}
+use Rattle.engine.specs.Publishing.{verdictOf, decide, freshEvidence, candidatesShown, isPublishing, magnitudeOf, publish}
+use Rattle.engine.specs.Submitting.{stamp, reread, decisionOn, computedFrom, submit}
+use Rattle.engine.specs.declared.types.Engine.{Engine}
+use Rattle.engine.specs.declared.types.Submitted.{Submitted}
+
+unfoldable pub submitNow : Engine → Submission → Submitted
+unfolding submit stamp reread decisionOn computedFrom verdictOf decide freshEvidence candidatesShown isPublishing magnitudeOf publish least passing firstEvidence holds heldOrDropped confirms keptOrReplaced passed wholeSearched searched supports gain movedOffset followed tracked tally activeFraction meanPower averageEnergy readiness isNone blankSnapshot freshEngine noEngine opening fills openedIndex numberOf every validConfiguration indexFits openingRefusal validSettings validHypothesis validLock validMilestone validMilestones validEndpoint validEstimate validLast validEngine validWindow workFits handedRefusal submissionRefusal evidence jumpsFrom rereadsFrom searchable queryOf vertex fraction candidateOf candidateIn candidatesAt localFound coarseScores separation wholeSearch localSearch acceptsReference matcherOf insert sortInto crowded independentFrom marginOf maximumTo nearTo freeTo peaksFrom lane lanes onward dot varianceFloor bandTerm termAt correlationAt correlations partTerm partAt scorePart totals average contextFrames radius logs meanAround centredAt centred onTime regular accepts validValues tabulate rows allTo sumTo magnitude logSeries logOf log1pOf log10Of expSeries twoTo expOf tenTo rootOf nearestF32 wholeNearest wholeBelow wholeAbove neg add sub mul div lt le eq isNan ofInt toUnsigned ofBits toBits
+submitNow e i = submit e i

@@ -1,0 +1,30 @@
+-- The guarantee is not empty: a recorded session is a list such as it speaks of, and locks. Definitions only.
+use Prim.Native.Nat.{ℕ, _<_}
+use mathlib.Core.List.{List}
+use mathlib.Core.Path.{_≡_}
+use lib.ListN.{length, getD}
+use Rattle.matcher.specs.Index.{Matcher}
+use Rattle.matcher_laws.specs.Words.{Every, F32}
+use Rattle.engine.specs.Opening.{opening, openedSettings, matcherOfFilm}
+use Rattle.engine.specs.Chain.{Answered, OnChain}
+use Rattle.engine.specs.Guarantee.{answersTo, remaining, AllHanded, Promised, unanswered}
+use Rattle.engine.specs.declared.types.State.the-variants as state
+use Rattle.engine.specs.declared.types.Answer.the-variants as answer
+use Rattle.engine_sessions.specs.Session.{Session, roomFor, engineOf, submissions}
+
+-- The remaining answers of a session.
+abbrev pub left : Session → List Answered
+left s = remaining (answersTo (engineOf s) (submissions (s .turns)))
+
+pub record Locks (s : Session) : Type 0 where
+  -- opening is answered, the reference is one of f32, and so are the windows; the index is as opening filled it
+  pub held : Every F32 (s .film .values)
+  pub opened : opening (s .configuration) (s .hop) (s .film) (roomFor (s .film)) .answer ≡ answer.Opened
+  pub handed : AllHanded (openedSettings (s .configuration) (s .hop) (s .film)) (matcherOfFilm (s .hop) (s .film)) (submissions (s .turns))
+  -- so all is promised of the list,
+  pub promised : Promised (engineOf s) (matcherOfFilm (s .hop) (s .film)) (submissions (s .turns))
+  -- its first remaining answer is Locked,
+  pub some : 0 < length (left s)
+  pub locked : getD (left s) 0 unanswered .snapshot .state ≡ state.Locked
+  -- and therefore ends a chain
+  pub chain : OnChain (engineOf s .settings .«hop_ms») (λ (k : ℕ). getD (left s) k unanswered) 0

@@ -1,0 +1,134 @@
+-- A recorded session of the Rust, and what it is to work it out by the engine's definitions. Definitions only.
+use Prim.Native.Nat.{ℕ, zero, suc, _+_, _-_, _*_, _/_}
+use mathlib.Core.Bool.{true}
+use mathlib.Core.List.{List, [], _∷_, _++_}
+use mathlib.Core.Path.{_≡_}
+use lib.ListN.{length, replicate}
+use lib.Ieee.{Float}
+use Rattle.numbers.specs.Arithmetic.{zero⁺}
+use Rattle.matcher_picks.specs.Peaks.{most}
+use Rattle.engine.specs.Windows.{Soundtrack, Index, Window, endpointOf}
+use Rattle.engine.specs.Refusals.{Submission}
+use Rattle.engine.specs.Opening.{blankCandidate, blankSnapshot, opening}
+use Rattle.engine.specs.Submitting.{submit, refused}
+use Rattle.engine.specs.Guarantee.{answersTo}
+use Rattle.engine.specs.Chain.{Answered}
+use Rattle.engine.specs.declared.types.Configuration.{Configuration}
+use Rattle.engine.specs.declared.types.Lock.{Lock}
+use Rattle.engine.specs.declared.types.CandidateDiagnostics.{CandidateDiagnostics}
+use Rattle.engine.specs.declared.types.Snapshot.{Snapshot}
+use Rattle.engine.specs.declared.types.Engine.{Engine}
+use Rattle.engine.specs.declared.types.Submitted.{Submitted}
+use Rattle.engine.specs.declared.types.Endpoint.the-variants as endpoint
+use Rattle.engine.specs.declared.types.Answer.{Answer}
+use Rattle.engine.specs.declared.types.Answer.the-variants as answer
+
+-- ---- what is handed in
+-- Buffers as long as opening asks of them, full of zeros.
+abbrev pub roomFor : Soundtrack → Index
+roomFor film =
+    let n = length (film .times) in
+    record {
+      fine = replicate (film .bands * n) zero⁺;
+      coarse = replicate (film .bands * (n / 4)) zero⁺;
+      fineSquares = replicate (film .bands * (n + 1)) zero⁺;
+      coarseSquares = replicate (film .bands * (n / 4 + 1)) zero⁺;
+    }
+
+abbrev pub noIndex : Index
+noIndex = record { fine = []; coarse = []; fineSquares = []; coarseSquares = [] }
+
+-- A window with an index and with working buffers as long as a submission asks, for a reference of N frames.
+abbrev pub heard : ℕ → Index → Window → Float → Submission
+heard N x w clock = record {
+  index = x;
+  window = w;
+  clock = record { 0 = clock };
+  room32 = 2 * w .bands * length (w .times);
+  room64 = 3 * w .bands * (length (w .times) + 1) + N;
+}
+
+-- The same without working buffers.
+abbrev pub heardWithoutWork : Index → Window → Float → Submission
+heardWithoutWork x w clock = record { index = x; window = w; clock = record { 0 = clock }; room32 = 0; room64 = 0 }
+
+-- ---- what came of it
+-- The candidates of a snapshot, as the array of 8.
+abbrev pub eight : List CandidateDiagnostics → List CandidateDiagnostics
+eight l = l ++ replicate (most - length l) blankCandidate
+
+-- A refusal, a re-reading, or a computed answer with the lock that the Rust then holds.
+pub data Reply : Type 0 where
+  refusal : Answer → Reply
+  again : Snapshot → Reply
+  answered : Snapshot → Lock → Reply
+
+-- What the submission has to give back: the Rust's snapshot and, in the next state, the Rust's lock, milestones, endpoint and last snapshot.
+abbrev pub outcome : Engine → Submission → Reply → Submitted
+outcome e i (refusal r) = refused e r
+outcome e i (again n) = record { answer = answer.Reread; engine = e; snapshot = n }
+outcome e i (answered n l) = record {
+  answer = answer.Computed;
+  engine = record { settings = e .settings; lock = l; milestones = n .milestones; last = record { «endpoint_ms» = endpoint.At (endpointOf (i .window)); «has_snapshot» = true; snapshot = n } };
+  snapshot = n;
+}
+
+-- ---- a session
+pub record Turn : Type 0 where
+  pub submission : Submission
+  pub reply : Reply
+
+pub record Session : Type 0 where
+  pub configuration : Configuration
+  pub hop : Float
+  pub film : Soundtrack
+  pub turns : List Turn
+
+abbrev pub engineOf : Session → Engine
+engineOf s = opening (s .configuration) (s .hop) (s .film) (roomFor (s .film)) .engine
+
+unfoldable pub submissions : List Turn → List Submission
+submissions [] = []
+submissions (t ∷ l) = t .submission ∷ submissions l
+
+-- The turn gives back what the Rust did.
+abbrev pub Works : Engine → Turn → Type 0
+Works e t = submit e (t .submission) ≡ outcome e (t .submission) (t .reply)
+
+-- The engine after it.
+abbrev pub after : Engine → Turn → Engine
+after e t = outcome e (t .submission) (t .reply) .engine
+
+-- Turn n of the list, counted from 0, works.
+abbrev pub WorksAt : Engine → List Turn → ℕ → Type 0
+WorksAt e [] n = Unit
+WorksAt e (t ∷ l) zero = Works e t
+WorksAt e (t ∷ l) (suc n) = WorksAt (after e t) l n
+
+abbrev pub TurnWorks : Session → ℕ → Type 0
+TurnWorks s n = WorksAt (engineOf s) (s .turns) n
+
+-- Every turn works, one after the other.
+pub data AllWork : Engine → List Turn → Type 0 where
+  end : {e : Engine} → AllWork e []
+  turn : {e : Engine} {t : Turn} {l : List Turn} → Works e t → AllWork (after e t) l → AllWork e (t ∷ l)
+
+abbrev pub Recorded : Session → Type 0
+Recorded s = AllWork (engineOf s) (s .turns)
+
+-- ---- the answers of a session, as the guarantee sees them
+unfoldable pub replied : Turn → Answered
+replied t = of (t .reply)
+  where
+    of : Reply → Answered
+    of (refusal r) = record { submission = t .submission; answer = r; snapshot = blankSnapshot }
+    of (again n) = record { submission = t .submission; answer = answer.Reread; snapshot = n }
+    of (answered n l) = record { submission = t .submission; answer = answer.Computed; snapshot = n }
+
+unfoldable pub allReplied : List Turn → List Answered
+allReplied [] = []
+allReplied (t ∷ l) = replied t ∷ allReplied l
+
+-- A recorded session's answers are the recorded ones.
+abbrev pub AnswersRecorded : Type 0
+AnswersRecorded = (s : Session) → Recorded s → answersTo (engineOf s) (submissions (s .turns)) ≡ allReplied (s .turns)
