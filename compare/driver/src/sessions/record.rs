@@ -32,6 +32,8 @@ fn outcome(engine: &mut Engine, submission: &Submission) -> Outcome {
     } else {
         let kept = engine.last_snapshot.as_ref();
         assert_eq!(kept, Some(&snapshot), "a computed answer is kept");
+        let endpoint = Some(window.endpoint_recorded_time_ms);
+        assert_eq!(engine.last_endpoint_ms, endpoint, "and its endpoint");
     }
     let kept = kept(engine);
     Outcome::Answered(Box::new(Answer {
@@ -46,7 +48,6 @@ fn kept(engine: &Engine) -> Kept {
     Kept {
         pending: engine.pending.clone(),
         accepted: engine.accepted.clone(),
-        last_endpoint_ms: engine.last_endpoint_ms,
         last_global_search_ms: engine.last_global_search_ms,
     }
 }

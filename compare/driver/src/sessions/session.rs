@@ -64,12 +64,12 @@ pub struct Answer {
     pub kept: Kept,
 }
 
-/// What the engine keeps for the next submission, beside the snapshot and its milestones.
+/// What the engine keeps for the next submission, beside the endpoint, the snapshot and its
+/// milestones.
 #[derive(Clone, Debug)]
 pub struct Kept {
     pub pending: Option<Hypothesis>,
     pub accepted: Option<Hypothesis>,
-    pub last_endpoint_ms: Option<f64>,
     pub last_global_search_ms: f64,
 }
 
