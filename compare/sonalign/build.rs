@@ -1,6 +1,7 @@
 //! Makes the comparison build: reads types.rs, matcher.rs and engine.rs, edits them and writes them
-//! to OUT_DIR, where lib.rs includes them. Every edit says how often it matches, so that another
-//! source than the expected one stops the build and is not compared half edited.
+//! to OUT_DIR, where lib.rs includes them; beside them, in own/, matcher.rs with its own functions.
+//! Every edit says how often it matches, so that another source than the expected one stops the
+//! build and is not compared half edited.
 
 use std::path::{Path, PathBuf};
 use std::{env, fs, process};
@@ -15,6 +16,7 @@ fn main() {
     make(&from, &to, "types.rs", types);
     make(&from, &to, "matcher.rs", matcher);
     make(&from, &to, "engine.rs", engine);
+    make(&from, &to.join("own"), "matcher.rs", own_matcher);
 }
 
 fn types(file: &mut File) {
@@ -32,6 +34,17 @@ fn matcher(file: &mut File) {
         "frame.pcen_mel[band].ln_1p()",
         "crate::replaced::ln_1p(frame.pcen_mel[band])",
     );
+    file.lacks_functions();
+    open_matcher(file);
+}
+
+/// The same but for the function that it calls.
+fn own_matcher(file: &mut File) {
+    file.has(1, "frame.pcen_mel[band].ln_1p()");
+    open_matcher(file);
+}
+
+fn open_matcher(file: &mut File) {
     file.replace(14, "pub(crate) ", "pub ");
     file.replace(1, "\nstruct Bands {", "\npub struct Bands {");
     file.open_fields("pub struct Bands {", 2);
@@ -39,7 +52,6 @@ fn matcher(file: &mut File) {
     file.replace(2, "\n    const ", "\n    pub const ");
     file.replace(4, "\n    fn ", "\n    pub fn ");
     file.replace(6, "\nfn ", "\npub fn ");
-    file.lacks_functions();
 }
 
 fn engine(file: &mut File) {
@@ -77,7 +89,8 @@ fn make(from: &Path, to: &Path, name: &'static str, edit: fn(&mut File)) {
     };
     let mut file = File { name, text };
     edit(&mut file);
-    if let Err(error) = fs::write(to.join(name), file.text) {
+    let written = fs::create_dir_all(to).and_then(|()| fs::write(to.join(name), file.text));
+    if let Err(error) = written {
         fail(&format!("{name} cannot be written: {error}"));
     }
 }
@@ -138,8 +151,12 @@ impl File {
         self.text = format!("{before}{head}{fields}\n}}{after}");
     }
 
+    fn has(&self, times: usize, text: &str) {
+        self.expect(text, times, self.text.matches(text).count());
+    }
+
     fn lacks(&self, text: &str) {
-        self.expect(text, 0, self.text.matches(text).count());
+        self.has(0, text);
     }
 
     /// None of the replaced functions is left, nor a relative of theirs.

@@ -13,8 +13,9 @@ use std::io::Write;
 use std::process::ExitCode;
 use std::{env, io};
 
-const USAGE: &str =
-    "usage: run [--quick | --bench | --list | --matcher-list | --sessions | --samples]";
+const USAGE: &str = "\
+usage: run [--quick | --bench | --list | --matcher-list | --sessions | --samples]
+       run --repeat (whole | local | opening) (ours | replaced | own)";
 
 fn main() -> ExitCode {
     let words: Vec<String> = env::args().skip(1).collect();
@@ -23,15 +24,21 @@ fn main() -> ExitCode {
         [] => verdict(check(Effort::full())),
         ["--quick"] => verdict(check(Effort::QUICK)),
         ["--bench"] => print(&(numbers::bench::table() + "\n" + &matcher::bench::table())),
+        ["--repeat", operation, side] => match matcher::bench::repeat(operation, side) {
+            Some(line) => print(&line),
+            None => usage(),
+        },
         ["--list"] => print(&numbers::list::lines()),
         ["--matcher-list"] => print(&matcher::list::lines()),
         ["--sessions"] => print_sessions(),
         ["--samples"] => print(&numbers::samples::lines()),
-        _ => {
-            eprintln!("{USAGE}");
-            ExitCode::from(2)
-        }
+        _ => usage(),
     }
+}
+
+fn usage() -> ExitCode {
+    eprintln!("{USAGE}");
+    ExitCode::from(2)
 }
 
 /// Every part of the port beside the Rust's.

@@ -19,5 +19,13 @@ pub mod engine {
     include!(concat!(env!("OUT_DIR"), "/engine.rs"));
 }
 
+/// The Rust with its own functions, for measuring only.
+pub mod own {
+    #[allow(dead_code, clippy::all)]
+    pub mod matcher {
+        include!(concat!(env!("OUT_DIR"), "/own/matcher.rs"));
+    }
+}
+
 // matcher.rs names these two at the root of the crate.
 pub use types::{FeatureFrame, FeatureWindow};

@@ -1,1 +1,4 @@
+pub mod BlockLaws
+pub mod PartLaws
 pub mod ScoreLaws
+pub mod TileLaws

@@ -1,5 +1,5 @@
-// The scores of a query's places on a reference. The plain loops: one place after the other, each
-// operation in the Rust's order.
+// The scores of a query's places on a reference: of a whole query in blocks of places, of a part of
+// it one place at a time. Each operation is in the Rust's order.
 ghost use Prim.Native.Nat.{ℕ, _+_, _*_, _<_, _≤_};
 ghost use lib.Ieee.{nan};
 ghost use lib.ListN.{getD, length};
@@ -8,6 +8,10 @@ ghost use Rattle.matcher_bands.specs.Energy.{bandsOf};
 ghost use Rattle.matcher_bands.specs.Rows.{sumTo, tabulate};
 ghost use Rattle.matcher_scores.specs.Scores.{bandTerm, correlations, dot, partAt, partTerm, product, scorePart, termAt, varianceFloor};
 ghost use Rattle.numbers.specs.Arithmetic.{_⊕_, _⊗_, zero⁺};
+use crate::blocks::BLOCK;
+use crate::blocks::add_block;
+use crate::blocks::block_end;
+use crate::blocks::padded;
 use numbers::float::at_least;
 use numbers::float::real;
 use numbers::float::widen;
@@ -64,25 +68,8 @@ pub fn variance_floor(n: usize) -> f64
     real(n) * 0.001
 }
 
-// What a band adds to the score of the place `start`.
-fn band_term(
-    reference: &[f32],
-    squares: &[f64],
-    query: &[f32],
-    floor: f64,
-    query_energy: f64,
-    start: usize,
-) -> f64
-    requires { ⌜ start + length (now query) ≤ length (now reference) ⌝ ∗ ⌜ length (now reference) < length (now squares) ⌝ }
-    ensures { λ r. ⌜ r ≡ bandTerm (now (reference .entry)) (now (squares .entry)) (now (query .entry)) floor «query_energy» start ⌝ }
-{
-    let end = start + query.len();
-    let dot = widen(dot_product(&reference[start..end], query));
-    let energy = at_least(floor, squares[end] - squares[start]);
-    dot / root(query_energy * energy)
-}
-
-// Adds what a band adds to each score, from the place `low` on.
+// Adds what a band adds to each score, from the place `low` on, block after block. A block may work
+// on more places than it has scores for, so that it is a whole number of tiles.
 fn add_band(
     scores: &mut [f64],
     reference: &[f32],
@@ -91,14 +78,33 @@ fn add_band(
     floor: f64,
     query_energy: f64,
     low: usize,
+    dotted: &mut [f32],
+    products: &mut [f64],
+    roots: &mut [f64],
+    digits: &mut [u64],
 )
     requires { ⌜ low + length (now scores) + length (now query) ≤ length (now reference) + 1 ⌝ ∗ ⌜ length (now reference) < length (now squares) ⌝ }
+    requires { ⌜ length (now dotted) ≡ 120 ⌝ ∗ ⌜ length (now products) ≡ 120 ⌝ ∗ ⌜ length (now roots) ≡ 120 ⌝ ∗ ⌜ length (now digits) ≡ 120 ⌝ }
     ensures { λ _. ⌜ now (scores .exit) ≡ tabulate (λ (i : ℕ). getD (now (scores .entry)) i nan ⊕ bandTerm (now (reference .entry)) (now (squares .entry)) (now (query .entry)) floor «query_energy» (low + i)) (length (now (scores .entry))) ⌝ }
 {
     let mut i = 0usize;
     while i < scores.len() {
-        scores[i] = scores[i] + band_term(reference, squares, query, floor, query_energy, low + i);
-        i += 1;
+        let end = block_end(i, scores.len());
+        let at = low + i;
+        let k = padded(end - i, at, query.len(), reference.len());
+        add_block(
+            &mut scores[i..end],
+            &reference[at..],
+            &squares[at..],
+            query,
+            floor,
+            query_energy,
+            &mut dotted[..k],
+            &mut products[..k],
+            &mut roots[..k],
+            &mut digits[..k],
+        );
+        i = end;
     }
 }
 
@@ -113,10 +119,15 @@ fn add_nth(
     count: usize,
     low: usize,
     b: usize,
+    dotted: &mut [f32],
+    products: &mut [f64],
+    roots: &mut [f64],
+    digits: &mut [u64],
 )
     requires { ⌜ b * frames + frames ≤ length (now reference) ⌝ ∗ ⌜ b * (frames + 1) + (frames + 1) ≤ length (now squares) ⌝ }
     requires { ⌜ b * count + count ≤ length (now query) ⌝ ∗ ⌜ b < length (now wholes) ⌝ }
     requires { ⌜ low + length (now scores) + count ≤ frames + 1 ⌝ }
+    requires { ⌜ length (now dotted) ≡ 120 ⌝ ∗ ⌜ length (now products) ≡ 120 ⌝ ∗ ⌜ length (now roots) ≡ 120 ⌝ ∗ ⌜ length (now digits) ≡ 120 ⌝ }
     ensures { λ _. ⌜ now (scores .exit) ≡ tabulate (λ (i : ℕ). getD (now (scores .entry)) i nan ⊕ termAt (bandsOf frames (now (reference .entry)) (now (squares .entry))) count (now (query .entry)) (now (wholes .entry)) (low + i) b) (length (now (scores .entry))) ⌝ }
 {
     let from = b * frames;
@@ -135,6 +146,10 @@ fn add_nth(
         floor,
         query_energy,
         low,
+        dotted,
+        products,
+        roots,
+        digits,
     );
 }
 
@@ -158,7 +173,8 @@ fn scale(scores: &mut [f64], by: f64)
     }
 }
 
-// The sum over the bands at each place.
+// The sum over the bands at each place. The working rows of a block stand here, so that they are
+// made once and not for each band.
 fn sum_bands(
     scores: &mut [f64],
     reference: &[f32],
@@ -175,6 +191,10 @@ fn sum_bands(
     requires { ⌜ low + length (now scores) + count ≤ frames + 1 ⌝ }
     ensures { λ _. ⌜ now (scores .exit) ≡ tabulate (λ (i : ℕ). sumTo (termAt (bandsOf frames (now (reference .entry)) (now (squares .entry))) count (now (query .entry)) (now (wholes .entry)) (low + i)) bands) (length (now (scores .entry))) ⌝ }
 {
+    let mut dotted = [0.0f32; BLOCK];
+    let mut products = [0.0f64; BLOCK];
+    let mut roots = [0.0f64; BLOCK];
+    let mut digits = [0u64; BLOCK];
     clear(scores);
     let mut b = 0usize;
     while b < bands {
@@ -188,6 +208,10 @@ fn sum_bands(
             count,
             low,
             b,
+            &mut dotted,
+            &mut products,
+            &mut roots,
+            &mut digits,
         );
         b += 1;
     }

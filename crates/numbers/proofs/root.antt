@@ -1,4 +1,4 @@
 -- What the proofs of the root share.
-mod NearRoots
+pub mod NearRoots
 mod Closest
 pub mod Rooted

@@ -7,4 +7,6 @@ pub mod logarithm;
 pub mod narrow;
 mod parts;
 pub mod root;
+pub mod root_row;
+mod square;
 pub mod whole;

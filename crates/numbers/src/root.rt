@@ -6,9 +6,10 @@ ghost use lib.Dec.{ltb};
 ghost use mathlib.Core.Bool.{cond, false, true};
 ghost use mathlib.Core.Logic.{_⊎_};
 ghost use mathlib.Core.Path.{_≡_};
-ghost use Rattle.numbers.specs.Root.{NearRoot, Normalised, Squared, rootOf, rootUnits};
+ghost use Rattle.numbers.specs.Root.{NearRoot, Normalised, rootOf, rootUnits};
 use crate::parts::LEADING;
 use crate::parts::split;
+use crate::square::square;
 use std::num::wrapping_sub_u64;
 
 // The square root of x: the nearest f64 to the exact root. A zero and a NaN are given back.
@@ -36,10 +37,8 @@ const HALF_BIAS: u64 = 485;
 // 2 ^ 53, the first number of 54 digits: the most that the nearest whole number to a root can be.
 const CARRIED: u64 = 2 * LEADING;
 
-// 2 ^ 54 and 2 ^ 27: a number below 2 ^ 108 in two parts, and one below 2 ^ 54.
+// 2 ^ 54: a number below 2 ^ 108 in two parts.
 const PART: u64 = 0x40_0000_0000_0000;
-
-const HALF: u64 = 0x800_0000;
 
 // The bit pattern of the root of sig * 2 ^ exp units of 2 ^ -1074.
 fn root_bits(sig: u64, exp: u64) -> u64
@@ -189,23 +188,4 @@ fn falls_short(c: u64, hi: u64, lo: u64) -> bool
         return true;
     }
     false
-}
-
-// A number of two parts: top * 2 ^ 54 + low.
-struct Halves {
-    top: u64,
-    low: u64,
-}
-
-// c * c, by halves of 27 digits: no u64 holds it.
-fn square(c: u64) -> Halves
-    requires { ⌜ c ≤ 2 ^ 53 ⌝ }
-    ensures { λ r. ⌜ Squared c (r .top) (r .low) ⌝ }
-{
-    let h: u64 = c / HALF;
-    let l: u64 = c % HALF;
-    let mid: u64 = 2 * (h * l);
-    let low: u64 = mid % HALF * HALF + l * l;
-    let top: u64 = h * h + mid / HALF;
-    Halves { top, low }
 }

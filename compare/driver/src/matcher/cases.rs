@@ -73,7 +73,7 @@ enum Sound {
 }
 
 /// The 250 ms in frames, at least 1.
-fn radius(hop: f64) -> usize {
+pub fn radius(hop: f64) -> usize {
     (250.0 / hop).round().max(1.0) as usize
 }
 

@@ -2,7 +2,7 @@
 
 use super::case::{Candidate, Frames};
 use sonalign::matcher::{Bands, MatchResult, SpectralMatcher};
-use sonalign::{FeatureFrame, FeatureWindow};
+use sonalign::{own, FeatureFrame, FeatureWindow};
 
 pub struct Matcher(SpectralMatcher);
 
@@ -25,6 +25,20 @@ impl Matcher {
 
     pub fn search(&self, window: &Query, range: Option<(f64, f64)>) -> Vec<Candidate> {
         candidates(&self.0.match_query(&window.0, range))
+    }
+}
+
+/// The Rust with its own functions: measured, not compared.
+pub struct Own(own::matcher::SpectralMatcher);
+
+impl Own {
+    pub fn of(frames: &[FeatureFrame], hop: f64) -> Option<Self> {
+        own::matcher::SpectralMatcher::new(frames, hop).map(Self)
+    }
+
+    /// How many candidates it finds.
+    pub fn search(&self, window: &Query, range: Option<(f64, f64)>) -> usize {
+        self.0.match_query(&window.0, range).candidates.len()
     }
 }
 

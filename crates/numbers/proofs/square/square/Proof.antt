@@ -1,9 +1,9 @@
--- `numbers::root::square` meets its contract. Assumes nothing.
+-- `numbers::square::square` meets its contract. Assumes nothing.
 use native.Mathlib.Omega.{arith}
 use borrow.Author.Needs.{needs}
 use Rattle.numbers.proofs.root.NearRoots.{squared, square-parts}
-use Rattle.numbers.proofs.root.square.Statement.{statement}
-use Rattle.numbers.proofs.root.square.Tie as tie
+use Rattle.numbers.proofs.square.square.Statement.{statement}
+use Rattle.numbers.proofs.square.square.Tie as tie
 
 mul-mid : tie.Need-mul-mid
 mul-mid c = omega (arith, squared (c .args .c) (c .pre) .0)
