@@ -9,8 +9,9 @@ use lib.Seq.{getD-take, getD-drop, drop-drop, drop-at}
 use lib.Ieee.{Float, nan}
 use borrow.Rule.Slice.PartMut.{putMid, mid-len}
 use Rattle.numbers.specs.Arithmetic.{_⊕_, _⊖_, _⊗_, _⊘_, atLeast}
-use Rattle.numbers.proofs.root_row.Rows.{root-at}
-use Rattle.numbers.specs.Root.{rootOf, rootsOf}
+use Rattle.number_rows.proofs.Rows.{root-at}
+use Rattle.number_rows.specs.Rows.{rootsOf}
+use Rattle.numbers.specs.Root.{rootOf}
 use Rattle.matcher_bands.specs.Rows.{tabulate}
 use Rattle.matcher_bands.proofs.RowLaws.{Filling, length-tabulate, tabulate-ext}
 use Rattle.matcher_scores.specs.Scores.{dot, bandTerm}

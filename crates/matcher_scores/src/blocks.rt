@@ -9,9 +9,9 @@ ghost use Rattle.matcher_bands.specs.Rows.{tabulate};
 ghost use Rattle.matcher_scores.specs.Scores.{bandTerm};
 ghost use Rattle.numbers.specs.Arithmetic.{_⊕_, _⊖_, _⊗_, _⊘_, atLeast};
 use crate::tiles::dots;
+use number_rows::root_row::root_row;
 use numbers::float::at_least;
 use numbers::float::widen;
-use numbers::root_row::root_row;
 
 // What stands under the root at each place: the query's energy times the reference's over `count`
 // frames.
@@ -50,21 +50,20 @@ pub fn add_block(
     dotted: &mut [f32],
     products: &mut [f64],
     roots: &mut [f64],
-    digits: &mut [u64],
 )
     requires { ⌜ length (now scores) ≤ length (now dotted) ⌝ }
-    requires { ⌜ length (now products) ≡ length (now dotted) ⌝ ∗ ⌜ length (now roots) ≡ length (now dotted) ⌝ ∗ ⌜ length (now digits) ≡ length (now dotted) ⌝ }
+    requires { ⌜ length (now products) ≡ length (now dotted) ⌝ ∗ ⌜ length (now roots) ≡ length (now dotted) ⌝ }
     requires { ⌜ length (now dotted) + length (now query) ≤ length (now reference) + 1 ⌝ ∗ ⌜ length (now dotted) + length (now query) ≤ length (now squares) ⌝ }
     ensures { λ _. ⌜ now (scores .exit) ≡ tabulate (λ (i : ℕ). getD (now (scores .entry)) i nan ⊕ bandTerm (now (reference .entry)) (now (squares .entry)) (now (query .entry)) floor whole i) (length (now (scores .entry))) ⌝ }
 {
     fill_products(products, squares, query.len(), floor, whole);
-    root_row(roots, digits, products);
+    root_row(roots, products);
     dots(dotted, reference, query);
     add_quotients(scores, dotted, roots);
 }
 
 // The most places of a block: few enough that the working rows stay in the nearest cache, and a
-// multiple of the 12 that `dots` takes at once.
+// multiple of the 24 that `dots` takes at once.
 pub const BLOCK: usize = 120;
 
 // Where the block that begins at i ends, of n places.
@@ -75,13 +74,13 @@ pub fn block_end(i: usize, n: usize) -> usize
     if n - i < BLOCK { n } else { i + BLOCK }
 }
 
-// m, or the next multiple of the 12 places that `dots` takes at once, where a row of `frames` has so
+// m, or the next multiple of the 24 places that `dots` takes at once, where a row of `frames` has so
 // many places from `at` on.
 pub fn padded(m: usize, at: usize, count: usize, frames: usize) -> usize
     requires { ⌜ 0 < m ⌝ ∗ ⌜ m ≤ 120 ⌝ ∗ ⌜ at + m + count ≤ frames + 1 ⌝ }
     ensures { λ r. ⌜ (m ≤ r) × (r ≤ 120) × (at + r + count ≤ frames + 1) ⌝ }
 {
-    let full = (m + 11) / 12 * 12;
+    let full = (m + 23) / 24 * 24;
     let spare = frames - (at + (m - 1) + count);
     if full - m <= spare { full } else { m }
 }

@@ -81,10 +81,9 @@ fn add_band(
     dotted: &mut [f32],
     products: &mut [f64],
     roots: &mut [f64],
-    digits: &mut [u64],
 )
     requires { ⌜ low + length (now scores) + length (now query) ≤ length (now reference) + 1 ⌝ ∗ ⌜ length (now reference) < length (now squares) ⌝ }
-    requires { ⌜ length (now dotted) ≡ 120 ⌝ ∗ ⌜ length (now products) ≡ 120 ⌝ ∗ ⌜ length (now roots) ≡ 120 ⌝ ∗ ⌜ length (now digits) ≡ 120 ⌝ }
+    requires { ⌜ length (now dotted) ≡ 120 ⌝ ∗ ⌜ length (now products) ≡ 120 ⌝ ∗ ⌜ length (now roots) ≡ 120 ⌝ }
     ensures { λ _. ⌜ now (scores .exit) ≡ tabulate (λ (i : ℕ). getD (now (scores .entry)) i nan ⊕ bandTerm (now (reference .entry)) (now (squares .entry)) (now (query .entry)) floor «query_energy» (low + i)) (length (now (scores .entry))) ⌝ }
 {
     let mut i = 0usize;
@@ -102,7 +101,6 @@ fn add_band(
             &mut dotted[..k],
             &mut products[..k],
             &mut roots[..k],
-            &mut digits[..k],
         );
         i = end;
     }
@@ -122,12 +120,11 @@ fn add_nth(
     dotted: &mut [f32],
     products: &mut [f64],
     roots: &mut [f64],
-    digits: &mut [u64],
 )
     requires { ⌜ b * frames + frames ≤ length (now reference) ⌝ ∗ ⌜ b * (frames + 1) + (frames + 1) ≤ length (now squares) ⌝ }
     requires { ⌜ b * count + count ≤ length (now query) ⌝ ∗ ⌜ b < length (now wholes) ⌝ }
     requires { ⌜ low + length (now scores) + count ≤ frames + 1 ⌝ }
-    requires { ⌜ length (now dotted) ≡ 120 ⌝ ∗ ⌜ length (now products) ≡ 120 ⌝ ∗ ⌜ length (now roots) ≡ 120 ⌝ ∗ ⌜ length (now digits) ≡ 120 ⌝ }
+    requires { ⌜ length (now dotted) ≡ 120 ⌝ ∗ ⌜ length (now products) ≡ 120 ⌝ ∗ ⌜ length (now roots) ≡ 120 ⌝ }
     ensures { λ _. ⌜ now (scores .exit) ≡ tabulate (λ (i : ℕ). getD (now (scores .entry)) i nan ⊕ termAt (bandsOf frames (now (reference .entry)) (now (squares .entry))) count (now (query .entry)) (now (wholes .entry)) (low + i) b) (length (now (scores .entry))) ⌝ }
 {
     let from = b * frames;
@@ -149,7 +146,6 @@ fn add_nth(
         dotted,
         products,
         roots,
-        digits,
     );
 }
 
@@ -194,7 +190,6 @@ fn sum_bands(
     let mut dotted = [0.0f32; BLOCK];
     let mut products = [0.0f64; BLOCK];
     let mut roots = [0.0f64; BLOCK];
-    let mut digits = [0u64; BLOCK];
     clear(scores);
     let mut b = 0usize;
     while b < bands {
@@ -211,7 +206,6 @@ fn sum_bands(
             &mut dotted,
             &mut products,
             &mut roots,
-            &mut digits,
         );
         b += 1;
     }

@@ -1,4 +1,4 @@
-// The dot products of a row of places, 12 places at a time: the places stand side by side in a
+// The dot products of a row of places, 24 places at a time: the places stand side by side in a
 // vector, and each keeps the Rust's order of operations.
 ghost use Prim.Native.Nat.{ℕ, _+_, _*_, _<_, _≤_};
 ghost use lib.Ieee.{binary32, mul, nan};
@@ -10,38 +10,38 @@ ghost use Rattle.matcher_scores.specs.Scores.{dot};
 ghost use Rattle.matcher_scores.specs.Tiles.{laneAt};
 use crate::scores::dot_product;
 
-// Adds the row's 12 values from `at` on, times w.
-fn add_scaled(sums: &mut [f32; 12], row: &[f32], at: usize, w: f32)
-    requires { ⌜ length (now sums) ≡ 12 ⌝ ∗ ⌜ at + 12 ≤ length (now row) ⌝ }
-    ensures { λ _. ⌜ now (sums .exit) ≡ tabulate (λ (p : ℕ). getD (now (sums .entry)) p nan +₃₂ mul binary32 (getD (now (row .entry)) (at + p) nan) w) 12 ⌝ }
+// Adds the row's 24 values from `at` on, times w.
+fn add_scaled(sums: &mut [f32; 24], row: &[f32], at: usize, w: f32)
+    requires { ⌜ length (now sums) ≡ 24 ⌝ ∗ ⌜ at + 24 ≤ length (now row) ⌝ }
+    ensures { λ _. ⌜ now (sums .exit) ≡ tabulate (λ (p : ℕ). getD (now (sums .entry)) p nan +₃₂ mul binary32 (getD (now (row .entry)) (at + p) nan) w) 24 ⌝ }
 {
     let mut p = 0usize;
-    while p < 12 {
+    while p < 24 {
         sums[p] = sums[p] + row[at + p] * w;
         p += 1;
     }
 }
 
-fn add_all(sums: &mut [f32; 12], lane: &[f32; 12])
-    requires { ⌜ length (now sums) ≡ 12 ⌝ }
-    ensures { λ _. ⌜ now (sums .exit) ≡ tabulate (λ (p : ℕ). getD (now (sums .entry)) p nan +₃₂ getD (now (lane .entry)) p nan) 12 ⌝ }
+fn add_all(sums: &mut [f32; 24], lane: &[f32; 24])
+    requires { ⌜ length (now sums) ≡ 24 ⌝ }
+    ensures { λ _. ⌜ now (sums .exit) ≡ tabulate (λ (p : ℕ). getD (now (sums .entry)) p nan +₃₂ getD (now (lane .entry)) p nan) 24 ⌝ }
 {
     let mut p = 0usize;
-    while p < 12 {
+    while p < 24 {
         sums[p] = sums[p] + lane[p];
         p += 1;
     }
 }
 
-// Adds lanes j and j + 1 of the row's first 12 places. Two at once make six vectors of sums, which
-// hides the time that an addition takes.
-fn add_lanes(sums: &mut [f32; 12], row: &[f32], query: &[f32], j: usize, chunks: usize)
-    requires { ⌜ length (now sums) ≡ 12 ⌝ ∗ ⌜ length (now query) + 11 ≤ length (now row) ⌝ }
+// Adds lanes j and j + 1 of the row's first 24 places. Two at once make twelve vectors of sums: with
+// two weights and two products they fill the sixteen registers.
+fn add_lanes(sums: &mut [f32; 24], row: &[f32], query: &[f32], j: usize, chunks: usize)
+    requires { ⌜ length (now sums) ≡ 24 ⌝ ∗ ⌜ length (now query) + 23 ≤ length (now row) ⌝ }
     requires { ⌜ j < 7 ⌝ ∗ ⌜ chunks * 8 ≤ length (now query) ⌝ }
-    ensures { λ _. ⌜ now (sums .exit) ≡ tabulate (λ (p : ℕ). getD (now (sums .entry)) p nan +₃₂ laneAt (now (row .entry)) (now (query .entry)) p j chunks +₃₂ laneAt (now (row .entry)) (now (query .entry)) p (j + 1) chunks) 12 ⌝ }
+    ensures { λ _. ⌜ now (sums .exit) ≡ tabulate (λ (p : ℕ). getD (now (sums .entry)) p nan +₃₂ laneAt (now (row .entry)) (now (query .entry)) p j chunks +₃₂ laneAt (now (row .entry)) (now (query .entry)) p (j + 1) chunks) 24 ⌝ }
 {
-    let mut one = [0.0f32; 12];
-    let mut two = [0.0f32; 12];
+    let mut one = [0.0f32; 24];
+    let mut two = [0.0f32; 24];
     let mut k = 0usize;
     while k < chunks {
         let b = k * 8 + j;
@@ -53,14 +53,14 @@ fn add_lanes(sums: &mut [f32; 12], row: &[f32], query: &[f32], j: usize, chunks:
     add_all(sums, &two);
 }
 
-// The dot products at the row's first 12 places.
+// The dot products at the row's first 24 places.
 fn tile(out: &mut [f32], row: &[f32], query: &[f32])
-    requires { ⌜ length (now out) ≡ 12 ⌝ ∗ ⌜ length (now query) + 11 ≤ length (now row) ⌝ }
-    ensures { λ _. ⌜ now (out .exit) ≡ tabulate (λ (p : ℕ). dot (take (length (now (query .entry))) (drop p (now (row .entry)))) (now (query .entry))) 12 ⌝ }
+    requires { ⌜ length (now out) ≡ 24 ⌝ ∗ ⌜ length (now query) + 23 ≤ length (now row) ⌝ }
+    ensures { λ _. ⌜ now (out .exit) ≡ tabulate (λ (p : ℕ). dot (take (length (now (query .entry))) (drop p (now (row .entry)))) (now (query .entry))) 24 ⌝ }
 {
     let n = query.len();
     let chunks = n / 8;
-    let mut sums = [0.0f32; 12];
+    let mut sums = [0.0f32; 24];
     let mut j = 0usize;
     while j < 7 {
         add_lanes(&mut sums, row, query, j, chunks);
@@ -72,7 +72,7 @@ fn tile(out: &mut [f32], row: &[f32], query: &[f32])
         i += 1;
     }
     let mut p = 0usize;
-    while p < 12 {
+    while p < 24 {
         out[p] = sums[p];
         p += 1;
     }
@@ -84,8 +84,8 @@ pub fn dots(out: &mut [f32], row: &[f32], query: &[f32])
     ensures { λ _. ⌜ now (out .exit) ≡ tabulate (λ (i : ℕ). dot (take (length (now (query .entry))) (drop i (now (row .entry)))) (now (query .entry))) (length (now (out .entry))) ⌝ }
 {
     let mut at = 0usize;
-    while out.len() - at >= 12 {
-        let end = at + 12;
+    while out.len() - at >= 24 {
+        let end = at + 24;
         tile(&mut out[at..end], &row[at..], query);
         at = end;
     }

@@ -2,7 +2,6 @@
 use Prim.Native.Nat.{ℕ, zero, suc, _+_, _-_, _*_, _/_, _^_, _≤_, _<_}
 use mathlib.Core.Bool.{true, false, cond}
 use mathlib.Core.Path.{_≡_}
-use mathlib.Core.List.{List, [], _∷_}
 use lib.Count.{leadingZeros}
 use lib.Dec.{leb, ltb}
 use lib.Ieee.{Float, nan, inf, fin, binary64, up, down, size, units}
@@ -31,11 +30,6 @@ rootOf (inf s) = cond s nan (inf false)
 rootOf (fin s zero e) = fin s zero e
 rootOf (fin true (suc m) e) = nan
 rootOf (fin false (suc m) e) = rootUnits (suc m * up e * 2 ^ 1074 / down e)
-
--- The roots of a row of numbers.
-unfoldable pub rootsOf : List Float → List Float
-rootsOf [] = []
-rootsOf (x ∷ l) = rootOf x ∷ rootsOf l
 
 -- ---- for the inner functions
 -- sig * 2 ^ exp with its significand brought to 53 digits: full * 2 ^ (scale - 52).

@@ -7,6 +7,5 @@ pub mod logarithm;
 pub mod narrow;
 mod parts;
 pub mod root;
-pub mod root_row;
 mod square;
 pub mod whole;

@@ -1,7 +1,7 @@
 //! Every number function of the port beside Rust's own or, where document 01 replaces that, beside
 //! `replaced`.
 
-use super::{inputs, ours};
+use super::{inputs, ours, rows};
 use crate::compare::{compare, Effort};
 use sonalign::replaced;
 
@@ -42,6 +42,8 @@ fn narrow_and_root(effort: Effort) -> bool {
     let (narrow, root) = (inputs::narrow(effort), inputs::root(effort));
     compare("narrow", ours::narrow, |x| x as f32, &narrow, effort)
         & compare("root", ours::root, f64::sqrt, &root, effort)
+        & compare("root in a row", rows::root_in_row, f64::sqrt, &root, effort)
+        & rows::check(effort)
 }
 
 fn powers(effort: Effort) -> bool {

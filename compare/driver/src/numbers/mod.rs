@@ -7,4 +7,5 @@ mod inputs;
 pub mod list;
 mod ours;
 mod roots;
+mod rows;
 pub mod samples;

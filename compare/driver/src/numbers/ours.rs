@@ -30,3 +30,14 @@ exported! {
     ln_1p = numbers_ln_1p(f32) -> f32;
     log10 = numbers_log10(f64) -> f64;
 }
+
+// Proved to read and write within the slices given.
+unsafe extern "C" {
+    fn numbers_root_row(roots: *mut f64, roots_len: usize, x: *const f64, x_len: usize) -> bool;
+}
+
+/// Writes the roots of x, and says whether it has: the lengths must be equal.
+pub fn root_row(roots: &mut [f64], x: &[f64]) -> bool {
+    // SAFETY: the pointers and lengths are of slices.
+    unsafe { numbers_root_row(roots.as_mut_ptr(), roots.len(), x.as_ptr(), x.len()) }
+}

@@ -14,9 +14,9 @@ use Rattle.matcher_scores.proofs.blocks.add_block.Tie as tie
 returns : tie.Need-returns
 returns c =
     let dotted = c .before .before .before .before .before .before .before .before in
-    let rooted = dotted .before .before .before .before .before .before in
-    let filled = rooted .before .before .before .before .before .before in
-    let start = filled .before .before .before .before .before .before .before .before .before .before in
+    let rooted = dotted .before .before .before .before in
+    let filled = rooted .before .before .before .before .before in
+    let start = filled .before .before .before .before .before .before .before .before .before in
     let a = start .args in
     c .before .before .add-quotients .ensures
     ∙ tabulate-ext _ _ _ (λ i (h : i < length (a .scores .now)).
@@ -32,7 +32,6 @@ add-block-spec =
     (λ c κs. search needs)
     (λ c κs. search needs)
     (λ c κs. search needs)
-    (λ c. search needs)
     (λ c. search needs)
     (λ c. search needs)
     (λ c. search needs)

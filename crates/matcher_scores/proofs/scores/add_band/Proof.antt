@@ -11,26 +11,26 @@ use Rattle.matcher_scores.proofs.scores.add_band.Statement.{statement}
 use Rattle.matcher_scores.proofs.scores.add_band.Tie as tie
 
 abbrev Inv-loop : tie.InvT-loop
-Inv-loop scores₀ reference squares query floor energy low dotted₀ products₀ roots₀ digits₀ i₀ scores dotted products roots digits i =
+Inv-loop scores₀ reference squares query floor energy low dotted₀ products₀ roots₀ i₀ scores dotted products roots i =
     Filling (added reference squares query floor energy scores₀ low) scores₀ i scores
-    × (length dotted ≡ 120) × (length products ≡ 120) × (length roots ≡ 120) × (length digits ≡ 120)
+    × (length dotted ≡ 120) × (length products ≡ 120) × (length roots ≡ 120)
 
 abbrev μ-loop : tie.MeasureT-loop
-μ-loop scores₀ reference squares query floor energy low dotted₀ products₀ roots₀ digits₀ i₀ scores dotted products roots digits i = length scores₀ - i
+μ-loop scores₀ reference squares query floor energy low dotted₀ products₀ roots₀ i₀ scores dotted products roots i = length scores₀ - i
 
 loop-holds : tie.Need-loop-holds Inv-loop μ-loop
-loop-holds c = (filling-none _ _, omega arith, omega arith, omega arith, omega arith)
+loop-holds c = (filling-none _ _, omega arith, omega arith, omega arith)
 
 add-block-requires : tie.Need-add-block-requires Inv-loop μ-loop
 add-block-requires c κs = simp (length-take, length-drop) (omega arith)
 
 loop-again : tie.Need-loop-again Inv-loop μ-loop
 loop-again c =
-    let v = c .before .before .before .before .before .before .before .before .before .before in
-    let at = v .before .before .before .before .before .before .before .before .before .before .before in
+    let v = c .before .before .before .before .before .before .before .before in
+    let at = v .before .before .before .before .before .before .before .before .before .before in
     let l = at .loop in
-    let k = v .before .before .before .before .before .before .before .before .padded .result in
-    let end = v .before .before .before .before .before .before .before .before .before .block-end in
+    let k = v .before .before .before .before .before .before .before .padded .result in
+    let end = v .before .before .before .before .before .before .before .before .block-end in
     let inv = l .inv .0 in
     let rows = v .add-block .last .1 .1 .1 .1 .1 .1 in
     let kept = v .add-block .kept .1 .1 .1 .1 .1 .1 in (
@@ -38,7 +38,6 @@ loop-again c =
       same-len k (l .dotted) (rows .0) (kept .0) ∙ l .inv .1,
       same-len k (l .products) (rows .1 .0) (kept .1 .0) ∙ l .inv .2,
       same-len k (l .roots) (rows .1 .1 .0) (kept .1 .1 .0) ∙ l .inv .3,
-      same-len k (l .digits) (rows .1 .1 .1 .0) (kept .1 .1 .1 .0) ∙ l .inv .4,
     )
 
 returns : tie.Need-returns Inv-loop μ-loop
@@ -73,13 +72,10 @@ add-band-spec =
     (λ c. sym (length-take-le _ _ (omega arith)))
     (λ c. omega arith)
     (λ c. sym (length-take-le _ _ (omega arith)))
-    (λ c. omega arith)
-    (λ c. sym (length-take-le _ _ (omega arith)))
     add-block-requires
     (λ c. omega arith)
     loop-again
     (λ c. c .before .loop .inv .0 .size)
-    (λ c. omega arith)
     (λ c. omega arith)
     (λ c. omega arith)
     (λ c. omega arith)

@@ -10,9 +10,9 @@ use Rattle.matcher_scores.proofs.scores.add_nth.Tie as tie
 returns : tie.Need-returns
 unfolding termAt
 returns c =
-    let at = c .before .before .before .before .before .before .before .before .before .before in
-    let energy = at .before .before .before .before .before .before .before .before .before .at-least .ensures in
-    let floor = at .before .before .before .before .before .before .before .before .before .before .before .variance-floor .ensures in
+    let at = c .before .before .before .before .before .before .before .before in
+    let energy = at .before .before .before .before .before .before .before .before .at-least .ensures in
+    let floor = at .before .before .before .before .before .before .before .before .before .before .variance-floor .ensures in
     at .add-band .ensures ∙ simp (add-sub-cancel-left, add-one, energy, floor)
 
 pub add-nth-spec : {M : Type 1} → statement M
@@ -44,7 +44,6 @@ add-nth-spec =
     (λ c. search needs)
     (λ c. search needs)
     (λ c κs. search needs)
-    (λ c. search needs)
     (λ c. search needs)
     (λ c. search needs)
     (λ c. search needs)

@@ -19,24 +19,24 @@ abbrev sums : Bands → ℕ → List Float → List Float → ℕ → ℕ → �
 sums reference count query wholes low b n = tabulate (λ (i : ℕ). sumTo (termAt reference count query wholes (low + i)) b) n
 
 abbrev Inv-loop : tie.InvT-loop
-Inv-loop scores₀ reference squares frames query wholes count bands low dotted₀ products₀ roots₀ digits₀ b₀ scores dotted products roots digits b =
+Inv-loop scores₀ reference squares frames query wholes count bands low dotted₀ products₀ roots₀ b₀ scores dotted products roots b =
     (b ≤ bands) × (length scores ≡ length scores₀) × (scores ≡ sums (bandsOf frames reference squares) count query wholes low b (length scores₀))
-    × (length dotted ≡ 120) × (length products ≡ 120) × (length roots ≡ 120) × (length digits ≡ 120)
+    × (length dotted ≡ 120) × (length products ≡ 120) × (length roots ≡ 120)
 
 abbrev μ-loop : tie.MeasureT-loop
-μ-loop scores₀ reference squares frames query wholes count bands low dotted₀ products₀ roots₀ digits₀ b₀ scores dotted products roots digits b = bands - b
+μ-loop scores₀ reference squares frames query wholes count bands low dotted₀ products₀ roots₀ b₀ scores dotted products roots b = bands - b
 
 loop-holds : tie.Need-loop-holds Inv-loop μ-loop
 unfolding sumTo
 loop-holds c =
     let v = c .before .before .clear in
-    (omega arith, refl, v .ensures ∙ ap (tabulate (λ (i : ℕ). zero⁺)) (sym (v .kept .0)), refl, refl, refl, refl)
+    (omega arith, refl, v .ensures ∙ ap (tabulate (λ (i : ℕ). zero⁺)) (sym (v .kept .0)), refl, refl, refl)
 
 add-nth-requires : tie.Need-add-nth-requires Inv-loop μ-loop
 add-nth-requires c κs =
-    let at = c .before .before .before .before .before .before in
+    let at = c .before .before .before .before .before in
     let a = at .before .before .before .before .before .before .before .before .before .before .args in
-    let w = c .before .before .before .before .before .loop-test .taken in
+    let w = c .before .before .before .before .loop-test .taken in
     omega (
       arith,
       row-within (at .loop .b) (a .bands) (a .frames) w,
@@ -48,8 +48,8 @@ add-nth-requires c κs =
 loop-again : tie.Need-loop-again Inv-loop μ-loop
 unfolding sumTo
 loop-again c =
-    let added = c .before .before .before .before .before .before in
-    let at = added .before .before .before .before .before .before .before in
+    let added = c .before .before .before .before .before in
+    let at = added .before .before .before .before .before .before in
     let a = at .before .before .before .before .before .before .before .before .before .before .args in
     let b = at .loop .b in
     let inv = at .loop .inv in
@@ -62,7 +62,6 @@ loop-again c =
       rows .0 ∙ inv .3,
       rows .1 .0 ∙ inv .4,
       rows .1 .1 .0 ∙ inv .5,
-      rows .1 .1 .1 .0 ∙ inv .6,
     )
 
 same-length : tie.Need-same-length Inv-loop μ-loop
@@ -82,7 +81,6 @@ sum-bands-spec =
     μ-loop
     (λ c κs. tt)
     loop-holds
-    (λ c. omega arith)
     (λ c. omega arith)
     (λ c. omega arith)
     (λ c. omega arith)

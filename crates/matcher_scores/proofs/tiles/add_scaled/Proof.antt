@@ -13,7 +13,7 @@ abbrev Inv-loop : tie.InvT-loop
 Inv-loop sums₀ row at w p₀ sums p = Filling (λ (p : ℕ). getD sums₀ p nan +₃₂ mul binary32 (getD row (at + p) nan) w) sums₀ p sums
 
 abbrev μ-loop : tie.MeasureT-loop
-μ-loop sums₀ row at w p₀ sums p = 12 - p
+μ-loop sums₀ row at w p₀ sums p = 24 - p
 
 loop-again : tie.Need-loop-again Inv-loop μ-loop
 loop-again c =

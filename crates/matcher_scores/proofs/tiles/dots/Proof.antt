@@ -30,7 +30,7 @@ loop-again c =
     let at = c .before .before .before .before .before .before in
     let a = at .before .before .before .before .args in
     let k = at .loop .at in
-    filling-part _ _ k (k + 12) (at .loop .inv) (tile-places (a .row .now) (a .query .now) k (k + 12) (c .before .before .tile .ensures) (omega arith)) (omega arith) (omega arith)
+    filling-part _ _ k (k + 24) (at .loop .inv) (tile-places (a .row .now) (a .query .now) k (k + 24) (c .before .before .tile .ensures) (omega arith)) (omega arith) (omega arith)
 
 dot-product-requires : tie.Need-dot-product-requires Inv-loop μ-loop Inv-loop2 μ-loop2
 dot-product-requires c κs = simp (length-take, length-drop) (omega arith)

@@ -12,13 +12,13 @@ use Rattle.matcher_scores.proofs.tiles.tile.Statement.{statement}
 use Rattle.matcher_scores.proofs.tiles.tile.Tie as tie
 
 abbrev Inv-loop : tie.InvT-loop
-Inv-loop out row query n chunks sums₀ j₀ sums j = (j ≤ 8) × (j % 2 ≡ 0) × (sums ≡ tabulate (firstLanes row query (length query / 8) j) 12)
+Inv-loop out row query n chunks sums₀ j₀ sums j = (j ≤ 8) × (j % 2 ≡ 0) × (sums ≡ tabulate (firstLanes row query (length query / 8) j) 24)
 
 abbrev μ-loop : tie.MeasureT-loop
 μ-loop out row query n chunks sums₀ j₀ sums j = 8 - j
 
 abbrev Inv-loop2 : tie.InvT-loop2
-Inv-loop2 out row query n chunks sums₀ j i₀ sums i = (length query / 8 * 8 ≤ i) × (i ≤ length query) × (sums ≡ tabulate (dotTo row query i) 12)
+Inv-loop2 out row query n chunks sums₀ j i₀ sums i = (length query / 8 * 8 ≤ i) × (i ≤ length query) × (sums ≡ tabulate (dotTo row query i) 24)
 
 abbrev μ-loop2 : tie.MeasureT-loop2
 μ-loop2 out row query n chunks sums₀ j i₀ sums i = length query - i
@@ -27,14 +27,14 @@ abbrev Inv-loop3 : tie.InvT-loop3
 Inv-loop3 out₀ row query n chunks sums j i p₀ out p = Filling (λ (p : ℕ). getD sums p nan) out₀ p out
 
 abbrev μ-loop3 : tie.MeasureT-loop3
-μ-loop3 out₀ row query n chunks sums j i p₀ out p = 12 - p
+μ-loop3 out₀ row query n chunks sums j i p₀ out p = 24 - p
 
 loop-holds : tie.Need-loop-holds Inv-loop μ-loop Inv-loop2 μ-loop2 Inv-loop3 μ-loop3
 unfolding firstLanes tabulate
 loop-holds c = (omega arith, refl, refl)
 
 add-lanes-requires : tie.Need-add-lanes-requires Inv-loop μ-loop Inv-loop2 μ-loop2 Inv-loop3 μ-loop3
-add-lanes-requires c κs = (row-length _ 12 (c .before .before .loop .inv .2), omega arith)
+add-lanes-requires c κs = (row-length _ 24 (c .before .before .loop .inv .2), omega arith)
 
 loop-again : tie.Need-loop-again Inv-loop μ-loop Inv-loop2 μ-loop2 Inv-loop3 μ-loop3
 loop-again c =
@@ -50,7 +50,7 @@ loop2-holds c =
     (omega arith, omega arith, dot-begins (a .row .now) (a .query .now) (rw all at (at .loop .inv .2)))
 
 add-scaled-requires : tie.Need-add-scaled-requires Inv-loop μ-loop Inv-loop2 μ-loop2 Inv-loop3 μ-loop3
-add-scaled-requires c κs = (row-length _ 12 (c .before .before .before .loop2 .inv .2), omega arith)
+add-scaled-requires c κs = (row-length _ 24 (c .before .before .before .loop2 .inv .2), omega arith)
 
 loop2-again : tie.Need-loop2-again Inv-loop μ-loop Inv-loop2 μ-loop2 Inv-loop3 μ-loop3
 loop2-again c =
@@ -67,7 +67,7 @@ returns c =
     let at = c .before .before .before in
     let a = at .before .before .before .before .before .before .args in
     let all : at .loop2 .i ≡ length (a .query .now) = omega arith in
-    row-then _ _ (λ (p : ℕ) (x : Float). x) nan 12 (rw all at (at .loop2 .inv .2)) (filling-of (c .before .loop3 .inv) (omega arith) (omega arith))
+    row-then _ _ (λ (p : ℕ) (x : Float). x) nan 24 (rw all at (at .loop2 .inv .2)) (filling-of (c .before .loop3 .inv) (omega arith) (omega arith))
     (dot-ends (a .row .now) (a .query .now) (omega arith))
 
 pub tile-spec : {M : Type 1} → statement M
