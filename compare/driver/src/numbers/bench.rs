@@ -40,8 +40,41 @@ pub fn table() -> String {
     } = empty;
     format!(
         "{HEAD}{rows}\nNanoseconds per call, the least of {ROUNDS} medians of {REPEATS}. \
-         A call that does nothing: latency {latency:.1}, throughput {throughput:.1}.\n"
+         A call that does nothing: latency {latency:.1}, throughput {throughput:.1}.\n\n{}",
+        root_in_row()
     )
+}
+
+/// As long as a block of the scores.
+const ROW: usize = 120;
+
+/// What a root takes in a row, ours beside `f64::sqrt` of each number: the least of all repeats.
+fn root_in_row() -> String {
+    let x: Vec<f64> = doubles(983..=1063).iter().map(|x| x.abs()).collect();
+    let [mut ours, mut theirs] = [f64::INFINITY; 2];
+    for _ in 0..ROUNDS * REPEATS {
+        ours = ours.min(row_by_row(&x, |roots, row| {
+            ours::root_row(roots, row);
+        }));
+        theirs = theirs.min(row_by_row(&x, |roots, row| {
+            roots.iter_mut().zip(row).for_each(|(r, x)| *r = x.sqrt());
+        }));
+    }
+    format!(
+        "A root in rows of {ROW}: ours {ours:.2}, `f64::sqrt` {theirs:.2}, ratio {:.2}.\n",
+        ours / theirs
+    )
+}
+
+fn row_by_row(x: &[f64], act: impl Fn(&mut [f64], &[f64])) -> f64 {
+    let mut roots = [0.0; ROW];
+    let rows = x.chunks_exact(ROW);
+    let count = rows.len() * ROW;
+    let begun = Instant::now();
+    for row in rows {
+        act(black_box(&mut roots), black_box(row));
+    }
+    nanoseconds(begun, count)
 }
 
 /// Every function once, and last a call that does nothing.
