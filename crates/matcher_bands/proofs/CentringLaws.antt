@@ -10,7 +10,10 @@ use lib.ListN.{length, getD, take, drop, length-take, length-drop}
 use lib.Seq.{length-take-le, take-append-le, take-append-add, getD-append-add, getD-take, getD-drop, drop-drop, ext-getD}
 use borrow.Rule.Slice.PartMut.{putMid, postOf, same-len-mid, mid-len, drop-put}
 use Rattle.matcher_bands.specs.Rows.{tabulate, rows}
-use Rattle.matcher_bands.specs.Centring.{sumOf, meanAround, centredAt}
+use Rattle.matcher_bands.specs.Centring.{logs, sumOf, meanAround, centredAt}
+use Rattle.numbers.specs.Logarithm.{log1pOf}
+use Rattle.number_rows.specs.Logs.{logsOf}
+use Rattle.number_rows.proofs.Rows.{length-logs, log-at}
 use Rattle.matcher_bands.proofs.RowLaws.{length-tabulate, getD-tabulate, Filled, next-row}
 
 module _ {A : Type 0} (f : ℕ → A) where
@@ -90,3 +93,10 @@ module _ {A : Type 0} (g : ℕ → List A) (count tail : ℕ) (d : List A) where
       after : drop ((b + 1) * count + tail) (putMid at (e - at) whole part) ≡ drop ((b + 1) * count + tail) d
       after = rw end (drop-put at e whole part (omega arith) (omega (arith, p .0)) l
           ∙ rw (← all, ← drop-drop count (at + tail) whole, ← drop-drop count (at + tail) d) (ap (drop count) (p .2)))
+
+-- ---- the logs by their rule
+pub logs-are : (v : List Float) → logsOf v ≡ logs v
+unfolding logs
+logs-are v =
+    let f : ℕ → Float = λ i. log1pOf (getD v i nan) in
+    ext-getD nan (logsOf v) (tabulate f (length v)) (length-logs v ∙ sym (length-tabulate f (length v))) (λ i l. log-at v i ∙ sym (getD-tabulate f (length v) i nan (rw (length-logs v) at l)))

@@ -5,14 +5,14 @@ ghost use lib.Ieee.{nan};
 ghost use lib.ListN.{drop, getD, length, take};
 ghost use mathlib.Core.List.{_++_};
 ghost use mathlib.Core.Path.{_≡_};
-ghost use Rattle.matcher_bands.specs.Centring.{centred, centredAt, contextFrames, logs, meanAround, radius, sumOf};
+ghost use Rattle.matcher_bands.specs.Centring.{centred, centredAt, contextFrames, meanAround, radius, sumOf};
 ghost use Rattle.matcher_bands.specs.Rows.{row, rows, tabulate};
 use crate::counts::least;
 use crate::counts::less;
+use number_rows::log_row::log_row;
 use numbers::float::at_least;
 use numbers::float::real;
 use numbers::float::widen;
-use numbers::logarithm::ln_1p;
 use numbers::narrow::narrow;
 use numbers::whole::count;
 use numbers::whole::round;
@@ -29,19 +29,6 @@ pub fn radius(hop: f64) -> usize
     ensures { λ r. ⌜ r ≡ radius hop ⌝ }
 {
     count(at_least(1.0, context_frames(hop)))
-}
-
-// Fills the row with the logs of 1 + value.
-fn fill_logs(row: &mut [f32], values: &[f32])
-    requires { ⌜ length (now row) ≡ length (now values) ⌝ }
-    ensures { λ _. ⌜ now (row .exit) ≡ logs (now (values .entry)) ⌝ }
-{
-    let n = values.len();
-    let mut i = 0usize;
-    while i < n {
-        row[i] = ln_1p(values[i]);
-        i += 1;
-    }
 }
 
 // Fills the row with the prefix sums: one more than there are values.
@@ -106,7 +93,7 @@ fn centre_band(
     requires { ⌜ radius ≤ 250 ⌝ ∗ ⌜ from + count ≤ length (now values) ⌝ }
     ensures { λ _. ⌜ take count (now (row .exit)) ≡ take count (drop from (centred radius (now (values .entry)))) ⌝ }
 {
-    fill_logs(row, values);
+    log_row(row, values);
     fill_sums(sums, row);
     centre(row, sums, radius, from, count);
 }

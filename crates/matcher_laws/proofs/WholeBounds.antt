@@ -22,7 +22,7 @@ use Rattle.numbers.proofs.Value.{finite-no-nan, same-fraction}
 use Rattle.number_laws.specs.Values.{Den, NotNegative, Between}
 use Rattle.number_laws.proofs.Order.{Pos, Neg, den-pos, no-negative-part, le-self, le-total, le-transitive, between-finite}
 use Rattle.number_laws.proofs.Rounding.{Rounded, rounded-mono, is-own}
-use Rattle.number_laws.proofs.Placed.{placed, reach-is}
+use Rattle.number_laws.proofs.Placed.{round-own}
 use Rattle.number_laws.proofs.Sums.{add-rounded, add-mono, add-not-negative, sub-mono, sub-anti, sub-not-negative}
 use Rattle.number_laws.proofs.Products.{mul-mono, mul-not-negative, div-mono, div-not-negative}
 
@@ -149,17 +149,7 @@ upto-div n k x C K N h =
       to = rw (real-div (n * k) k N K n refl C) at (div-mono binary64 x (real (n * k)) (real k) (real k) X (real-finite (n * k) N) D D (h .from) (h .to) (le-self (real k) (real-finite k K)));
     }
 
--- ---- a value of a format is its own rounded value, so adding what is not negative does not lower it
-pub round-own : (f : Format) (s : Bool) (m : ℕ) (e : ℤ) → T (fits f (fin s m e)) → round f s (m * up e) (down e) ≡ fin s m e
-round-own f s m e F =
-    let p = placed f (fin s m e) F tt in
-    let n = p .digits * 2 ^ p .shift in
-    let under : n < 2 ^ (low f + suc (emax f)) = rw reach-is (lt-of-lt-of-le (mul-lt-mul-of-pos-right (p .few) (pow-pos (p .shift))) (mul-le-mul (le-refl (2 ^ prec f)) (pow-mono (let h = p .reach in omega arith)))) in
-    same-value f (round f s (m * up e) (down e)) (fin s m e) s n (round-fits f s (m * up e) (down e)) F
-    (same-fraction (round f s (m * up e) (down e)) s (m * up e) (down e) n (2 ^ low f) (down-pos e) (sym (p .value .1))
-    (round-exact f s (m * up e) (down e) (p .digits) (p .shift) (down-pos e) (p .few) under (p .value .1)))
-    (refl, p .value .1)
-
+-- ---- a value is its own rounded value, so adding what is not negative does not lower it
 own-rounded : (f : Format) (x : Float) → T (fits f x) → T (finite x) → Rounded f (Pos x) (Neg x) (Den x) x
 own-rounded f nan F X = absurd X
 own-rounded f (inf s) F X = absurd X

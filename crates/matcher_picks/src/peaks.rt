@@ -1,6 +1,7 @@
 // Which places of a list of scores are picked.
 ghost use Prim.Native.Nat.{ℕ, _<_, _≤_};
 ghost use lib.ListN.{getD, length, take};
+ghost use mathlib.Core.Bool.{cond};
 ghost use mathlib.Core.Path.{_≡_};
 ghost use Rattle.matcher_picks.specs.Peaks.{apart, bestFree, better, firstMaximum, nearTo, peaks};
 
@@ -42,16 +43,28 @@ fn is_near(taken: &[usize], separation: usize, i: usize) -> bool
     found
 }
 
-// Place i against the best so far; there is none yet where that is the number of scores.
-fn better_of(scores: &[f64], best: usize, i: usize) -> usize
+// Whether place i beats the best so far; there is none yet where that is the number of scores.
+fn beats(scores: &[f64], best: usize, i: usize) -> bool
     requires { ⌜ best ≤ length (now scores) ⌝ ∗ ⌜ i < length (now scores) ⌝ }
-    ensures { λ r. ⌜ r ≡ better (now (scores .entry)) best i ⌝ }
+    ensures { λ r. ⌜ cond r i best ≡ better (now (scores .entry)) best i ⌝ }
+{
+    best == scores.len() || scores[i] > scores[best]
+}
+
+// The best so far, or place i if that beats it and is free. Nearness is a loop and few places beat
+// the best so far, so only those are asked.
+fn free_step(scores: &[f64], separation: usize, taken: &[usize], best: usize, i: usize) -> usize
+    requires { ⌜ best ≤ length (now scores) ⌝ ∗ ⌜ i < length (now scores) ⌝ }
+    ensures { λ r. ⌜ r ≡ cond (nearTo (now (taken .entry)) separation i (length (now (taken .entry)))) best (better (now (scores .entry)) best i) ⌝ }
     ensures { λ r. ⌜ r ≤ length (now (scores .entry)) ⌝ }
 {
-    if best == scores.len() {
+    if beats(scores, best, i) {
+        if is_near(taken, separation, i) {
+            return best;
+        }
         return i;
     }
-    if scores[i] > scores[best] { i } else { best }
+    best
 }
 
 // The first of the largest scores among the free places.
@@ -62,9 +75,7 @@ fn best_free(scores: &[f64], separation: usize, taken: &[usize]) -> usize
     let mut best = scores.len();
     let mut i = 0usize;
     while i < scores.len() {
-        if !is_near(taken, separation, i) {
-            best = better_of(scores, best, i);
-        }
+        best = free_step(scores, separation, taken, best, i);
         i += 1;
     }
     best

@@ -41,7 +41,7 @@ module _ (w : Float) (F : T (fits binary32 w)) (W : T (finite w)) (p : NotNegati
   one-more : Between one beyond₃₂ (one ⊕ w)
   one-more = unfold add in add-between binary64 one one zero⁺ beyond₃₂ one w tt tt tt tt (record { from = unfold le in tt; to = unfold le in tt }) w-between
 
-  one-more-normal : Normal (one ⊕ w)
+  pub one-more-normal : Normal (one ⊕ w)
   one-more-normal = record { held = add-fits binary64 one w; finite-is = between-finite one beyond₃₂ (one ⊕ w) tt tt one-more; least = le-transitive smallestNormal one (one ⊕ w) (unfold ofBits le in tt) (one-more .from) }
 
   -- ---- s = w / (2 + w), up to w = 0.375

@@ -134,7 +134,7 @@ parts-not-negative m e m-in b =
     (total-between zero⁺ pastExponent zero⁺ fiveEighths e (logTwice (ratio m)) (unfold ofBits mul add in (tt, tt, tt, tt, tt)) tame-high b (record { from = n; to = twice-between m s .to }) .from)
 
 -- ---- L of a positive normal v is one of two such sums
-log-is : (v : Float) → Normal v → logOf v ≡ logHalved (mantissa v) (exponent v)
+pub log-is : (v : Float) → Normal v → logOf v ≡ logHalved (mantissa v) (exponent v)
 unfolding logOf
 log-is v n = rw (is-true (le smallestNormal v) (n .least), is-true (lt v (inf false)) (under v (n .finite-is)))
   where

@@ -1,17 +1,18 @@
 -- A finite value of a format in units of its smallest value: digits * 2 ^ shift, with no more digits than the format keeps. Assumes nothing.
 use mathlib.Core.Path.{_≡_, refl, sym, ap, _∙_, subst}
 use Prim.Native.Nat.{ℕ, zero, suc, _+_, _-_, _*_, _%_, _^_, _≤_, _<_}
-use native.Mathlib.Nat.{le-of-eq, le-of-suc-le-suc, lt-of-lt-of-le, lt-of-not-le, not-le-of-lt, mul-one, one-mul, mul-comm, mul-assoc, mul-right-comm, mul-lt-mul-of-pos-right, lt-of-mul-lt-mul-right, eq-of-mul-eq-mul-right, zero-mul, mul-pos}
+use native.Mathlib.Nat.{le-refl, mul-le-mul, le-of-eq, le-of-suc-le-suc, lt-of-lt-of-le, lt-of-not-le, not-le-of-lt, mul-one, one-mul, mul-comm, mul-assoc, mul-right-comm, mul-lt-mul-of-pos-right, lt-of-mul-lt-mul-right, eq-of-mul-eq-mul-right, zero-mul, mul-pos}
 use native.Mathlib.Omega.{arith}
 use mathlib.Core.Bool.{Bool, true, false, not, _&&_}
 use lib.Dec.{T, ltb, leb, eqb, ltb→lt, leb→le, nltb→le}
 use lib.IntN.{ℤ, pos, negsuc}
-use lib.Pow.{pow-pos, pow-lt, pow-add}
-use lib.Ieee.{Float, nan, inf, fin, Format, prec, emax, low, up, down, fits}
-use lib.Ieee.Fits.{two, down-pos, and-l, and-r}
+use lib.Pow.{pow-pos, pow-lt, pow-mono, pow-add}
+use lib.Ieee.{Float, nan, inf, fin, Format, prec, emax, low, up, down, round, fits}
+use lib.Ieee.Exact.{round-exact}
+use lib.Ieee.Fits.{two, down-pos, and-l, and-r, round-fits}
 use lib.Ieee.Scale.{finite}
-use Rattle.numbers.proofs.Encode.{emax-pos}
-use Rattle.numbers.proofs.Value.{value-finite}
+use Rattle.numbers.proofs.Encode.{emax-pos, same-value}
+use Rattle.numbers.proofs.Value.{value-finite, same-fraction}
 use Rattle.number_laws.specs.Values.{Units}
 
 -- x is ±digits * 2 ^ shift units
@@ -124,3 +125,14 @@ units-one f (fin u m e) s t a b h k = (sym (h .0) ∙ k .0, eq-of-mul-eq-mul-rig
 -- n units are a number of no more digits than the format keeps, times a power of two
 pub placed-units : (f : Format) (y : Float) (t : Bool) (n : ℕ) → T (fits f y) → Units f y t n → (q : ℕ) × (j : ℕ) × (q < 2 ^ prec f) × (n ≡ q * 2 ^ j)
 placed-units f y t n F U = let p = placed f y F (value-finite y t n (2 ^ low f) U) in (p .digits, p .shift, p .few, units-one f y t (p .sign) n (p .digits * 2 ^ p .shift) U (p .value) .1)
+
+-- ---- a value of a format is its own rounded value
+pub round-own : (f : Format) (s : Bool) (m : ℕ) (e : ℤ) → T (fits f (fin s m e)) → round f s (m * up e) (down e) ≡ fin s m e
+round-own f s m e F =
+    let p = placed f (fin s m e) F tt in
+    let n = p .digits * 2 ^ p .shift in
+    let under : n < 2 ^ (low f + suc (emax f)) = rw reach-is (lt-of-lt-of-le (mul-lt-mul-of-pos-right (p .few) (pow-pos (p .shift))) (mul-le-mul (le-refl (2 ^ prec f)) (pow-mono (let h = p .reach in omega arith)))) in
+    same-value f (round f s (m * up e) (down e)) (fin s m e) s n (round-fits f s (m * up e) (down e)) F
+    (same-fraction (round f s (m * up e) (down e)) s (m * up e) (down e) n (2 ^ low f) (down-pos e) (sym (p .value .1))
+    (round-exact f s (m * up e) (down e) (p .digits) (p .shift) (down-pos e) (p .few) under (p .value .1)))
+    (refl, p .value .1)

@@ -1,4 +1,4 @@
--- What the proofs of a row's roots share.
+-- What the proofs of a row's roots, and of its logarithms, share.
 mod Range
 mod Differences
 mod Parts
@@ -6,3 +6,4 @@ mod Gaps
 mod Settled
 mod Sure
 pub mod Rows
+mod LogPasses

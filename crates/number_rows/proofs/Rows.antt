@@ -1,13 +1,16 @@
--- The roots of a row, element by element. Assumes nothing.
-use mathlib.Core.Path.{_≡_, refl, sym, ap, _∙_}
+-- The roots of a row and its logarithms, element by element. Assumes nothing.
+use mathlib.Core.Path.{_≡_, refl, sym, subst, ap, _∙_}
 use Prim.Native.Nat.{ℕ, zero, suc, _+_, _≤_, _<_}
 use native.Mathlib.Numerals.{add-one}
 use mathlib.Core.List.{List, [], _∷_, _++_}
-use lib.ListN.{length, getD, set, take}
+use lib.ListN.{length, length-map, getD, set, take, List·getD-map}
 use lib.Seq.{take-all, take-suc, take-suc-set}
-use lib.Ieee.{Float, nan}
+use lib.Ieee.{Float, nan, add, le, ofBits}
+use Rattle.numbers.specs.Logarithm.{logOf, log1pOf}
+use Rattle.numbers.specs.Narrow.{nearestF32}
 use Rattle.numbers.specs.Root.{rootOf}
 use Rattle.number_rows.specs.Rows.{rootsOf}
+use Rattle.number_rows.specs.Logs.{logsOf}
 
 pub length-roots : (l : List Float) → length (rootsOf l) ≡ length l
 unfolding rootsOf
@@ -36,3 +39,17 @@ written-more i r l {v} p q h k = rw add-one
 -- all are
 pub written-all : (i : ℕ) (r l : List Float) → take i r ≡ rootsOf (take i l) → length r ≤ i → length l ≤ i → r ≡ rootsOf l
 written-all i r l p h k = sym (take-all i r h) ∙ p ∙ ap rootsOf (take-all i l k)
+
+-- ---- logarithms
+pub length-logs : (w : List Float) → length (logsOf w) ≡ length w
+unfolding logsOf
+length-logs w = length-map w log1pOf
+
+log1p-nan : log1pOf nan ≡ nan
+unfolding log1pOf nearestF32 logOf le add ofBits
+log1p-nan = refl
+
+-- past the end too
+pub log-at : (w : List Float) (k : ℕ) → getD (logsOf w) k nan ≡ log1pOf (getD w k nan)
+unfolding logsOf
+log-at w k = subst (λ (x : Float). getD (logsOf w) k x ≡ log1pOf (getD w k nan)) log1p-nan (List·getD-map log1pOf w k nan)

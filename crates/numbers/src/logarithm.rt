@@ -1,8 +1,11 @@
 // L, which stands for the natural logarithm, `ln_1p` and `log10`: document 01's steps, each
 // operation rounded once.
+ghost use lib.Dec.{T};
+ghost use lib.Ieee.{isNan, lt};
+ghost use mathlib.Core.Bool.{cond, not};
 ghost use mathlib.Core.Path.{_≡_};
-ghost use Rattle.numbers.specs.Arithmetic.{zero⁺};
-ghost use Rattle.numbers.specs.Logarithm.{log10Of, log1pOf, logAt, logOf, logSeries, logTwice};
+ghost use Rattle.numbers.specs.Arithmetic.{_⊕_, _⊗_, one, zero⁺};
+ghost use Rattle.numbers.specs.Logarithm.{exponent, half, log10Of, log1pOf, logAt, logOf, logSeries, logTwice, mantissa, sqrt2};
 use crate::constants::HI;
 use crate::constants::LN_10;
 use crate::constants::LO;
@@ -25,17 +28,42 @@ pub fn ln(v: f64) -> f64
 {
     if v >= SMALLEST_NORMAL {
         if v < 1.0 / 0.0 {
-            let bits: u64 = f64::to_bits(v);
-            let m: f64 = f64::from_bits(bits % LEADING + ONE);
-            let e: f64 = (bits / LEADING) as f64 - 1023.0;
-            if m > SQRT_2 {
-                return log_at(m * 0.5, e + 1.0);
-            }
-            return log_at(m, e);
+            let m = mantissa(v);
+            return log_at(halved(m), raised(exponent(v), m));
         }
         return v;
     }
     0.0 / 0.0
+}
+
+// m of v = m * 2 ^ e.
+pub fn mantissa(v: f64) -> f64
+    requires { ⌜ T (not (isNan v)) ⌝ }
+    ensures { λ m. ⌜ m ≡ mantissa v ⌝ }
+{
+    f64::from_bits(f64::to_bits(v) % LEADING + ONE)
+}
+
+// e of v = m * 2 ^ e.
+pub fn exponent(v: f64) -> f64
+    requires { ⌜ T (not (isNan v)) ⌝ }
+    ensures { λ e. ⌜ e ≡ exponent v ⌝ }
+{
+    (f64::to_bits(v) / LEADING) as f64 - 1023.0
+}
+
+// m, halved where it is above √2; and the e beside it. Both without a branch: which way an m goes is
+// as good as random.
+pub fn halved(m: f64) -> f64
+    ensures { λ r. ⌜ r ≡ cond (lt sqrt2 m) (m ⊗ half) m ⌝ }
+{
+    if m > SQRT_2 { m * 0.5 } else { m }
+}
+
+pub fn raised(e: f64, m: f64) -> f64
+    ensures { λ r. ⌜ r ≡ cond (lt sqrt2 m) (e ⊕ one) e ⌝ }
+{
+    if m > SQRT_2 { e + 1.0 } else { e }
 }
 
 // The nearest f32 of ln(1 + w). Up to 0.375 the series takes w itself: 1 + w would lose its last

@@ -1,0 +1,17 @@
+-- `numbers::logarithm::mantissa` meets its contract. Assumes nothing.
+use Prim.Native.Nat.{ℕ, _+_, _%_, _≤_}
+use native.Mathlib.Omega.{arith}
+use lib.Ieee.{binary64, toBits}
+use borrow.Author.Needs.{needs}
+use Rattle.numbers.proofs.root.Rooted.{no-nan-bits}
+use Rattle.numbers.proofs.logarithm.mantissa.Statement.{statement}
+use Rattle.numbers.proofs.logarithm.mantissa.Tie as tie
+
+digits-small : (b : ℕ) → b % 4503599627370496 + 4607182418800017408 ≤ 9218868437227405312
+digits-small b = omega arith
+
+float-from-bits-result : tie.Need-float-from-bits-result
+float-from-bits-result c = no-nan-bits _ (digits-small (toBits binary64 (c .args .v)))
+
+pub mantissa-spec : {M : Type 1} → statement M
+mantissa-spec = tie.close (tie.spec (λ c. search needs) (λ c. search needs) float-from-bits-result (λ c. search needs))
