@@ -9,7 +9,7 @@ ghost use Rattle.matcher_bands.specs.Centring.{centred, centredAt, conte
 ghost use Rattle.matcher_bands.specs.Rows.{row, rows, tabulate};
 use crate::counts::least;
 use crate::counts::less;
-use number_rows::log_row::log_row;
+use number_rows::ln_1p_row::ln_1p_row;
 use numbers::float::at_least;
 use numbers::float::real;
 use numbers::float::widen;
@@ -93,7 +93,7 @@ fn centre_band(
     requires { ⌜ radius ≤ 250 ⌝ ∗ ⌜ from + count ≤ length (now values) ⌝ }
     ensures { λ _. ⌜ take count (now (row .exit)) ≡ take count (drop from (centred radius (now (values .entry)))) ⌝ }
 {
-    log_row(row, values);
+    ln_1p_row(row, values);
     fill_sums(sums, row);
     centre(row, sums, radius, from, count);
 }

@@ -2,23 +2,21 @@
 use mathlib.Core.Path.{_≡_, refl, sym, ap, _∙_, subst}
 use mathlib.Core.Logic.{inl, inr}
 use Prim.Native.Nat.{ℕ, zero, suc, _+_, _-_, _*_, _^_, _≤_, _<_}
-use native.Mathlib.Nat.{lt-irrefl, le-refl, lt-of-lt-of-le, mul-le-mul, mul-lt-mul-of-pos-right, zero-mul, mul-pos, mul-one, mul-assoc, mul-comm, mul-left-comm}
+use native.Mathlib.Nat.{lt-irrefl, zero-mul, mul-pos, mul-one, mul-assoc, mul-comm, mul-left-comm}
 use native.Mathlib.Omega.{arith}
-use mathlib.Core.Bool.{Bool, true, false, true≢false}
+use mathlib.Core.Bool.{true, false, true≢false}
 use lib.Dec.{T, lit<}
 use borrow.Author.Tests.{le-ltb, ne-eqb}
 use lib.IntN.{ℤ}
-use lib.Pow.{pow-pos, pow-mono}
-use lib.Ieee.{Float, nan, inf, fin, Format, prec, emax, low, binary64, up, down, round, sum, add, sub, mul, div, neg, ofInt, fits, le}
+use lib.Ieee.{Float, nan, inf, fin, Format, binary64, up, down, round, sum, add, sub, mul, div, neg, ofInt, fits, le}
 use lib.Ieee.Back.{round-whole}
-use lib.Ieee.Exact.{HasValue, round-exact}
-use lib.Ieee.Fits.{down-pos, round-fits}
+use lib.Ieee.Exact.{HasValue}
+use lib.Ieee.Fits.{down-pos}
 use lib.Ieee.Order.{round-mono}
 use lib.Ieee.Positive.{positive, positive-of-value}
 use lib.Ieee.Scale.{finite, round-same}
 use Rattle.numbers.specs.Arithmetic.{_⊕_, _⊖_, _⊗_, _⊘_, zero⁺, real}
-use Rattle.numbers.proofs.Encode.{same-value}
-use Rattle.numbers.proofs.Value.{finite-no-nan, same-fraction}
+use Rattle.numbers.proofs.Value.{finite-no-nan}
 use Rattle.number_laws.specs.Values.{Den, NotNegative, Between}
 use Rattle.number_laws.proofs.Order.{Pos, Neg, den-pos, no-negative-part, le-self, le-total, le-transitive, between-finite}
 use Rattle.number_laws.proofs.Rounding.{Rounded, rounded-mono, is-own}

@@ -13,13 +13,12 @@ use lib.ListN.{getD, length, set}
 use lib.Seq.{ext-getD, getD-set-same, getD-set-other}
 use lib.Ieee.{Float, nan, inf, fin, binary32, binary64, up, down, sum, round, add, mul, neg, lt, le, ofBits, ofInt, fits, isNan}
 use lib.Ieee.Fits.{mul-fits}
-use lib.Ieee.Scale.{finite}
 use Rattle.numbers.specs.Arithmetic.{_⊕_, _⊖_, _⊗_, _⊘_, zero⁺, one, two}
 use Rattle.numbers.specs.Exponential.{hi, lo}
 use Rattle.numbers.specs.Logarithm.{half, sqrt2, seriesMost, mantissa, exponent, logSeries, logTwice, logAt, logOf, log1pWide, log1pOf}
 use Rattle.numbers.specs.Narrow.{nearestF32}
 use Rattle.numbers.proofs.Encode.{round-no-nan}
-use Rattle.number_laws.specs.Values.{Normal, NotNegative}
+use Rattle.number_laws.specs.Values.{Normal}
 use Rattle.number_laws.proofs.Order.{lt→le, not-le→lt, le-transitive}
 use Rattle.number_laws.proofs.Placed.{round-own}
 use Rattle.number_laws.proofs.LogLaws.{log-is}

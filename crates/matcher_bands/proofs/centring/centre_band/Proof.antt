@@ -17,7 +17,7 @@ use Rattle.matcher_bands.proofs.centring.centre_band.Tie as tie
 centre-requires : tie.Need-centre-requires
 centre-requires c κs =
     let sums = c .before .before .before .before .fill-sums in
-    let n = c .before .before .before .before .before .before .before .before .before .log-row .kept .0 in
+    let n = c .before .before .before .before .before .before .before .before .before .ln-1p-row .kept .0 in
     let m = sums .kept .0 in
     (omega arith, (omega arith, (omega arith, (omega arith, sums .ensures))))
 
@@ -27,11 +27,11 @@ returns c =
     let at = c .before .before .before .before .before .before .before .before .before .before .before .before in
     let a = at .before .before .before .before .before .args in
     let v = a .values .now in
-    let l = at .log-row .last .0 in
+    let l = at .ln-1p-row .last .0 in
     let f : List Float → ℕ → Float = λ l i. centredAt (a .radius) l (a .from + i) in
     ap (take (a .count)) (c .before .before .centre .ensures)
     ∙ take-at (tabulate (f l) (a .count)) (drop (a .count) l) (a .count) (length-tabulate (f l) (a .count))
-    ∙ ap (λ (l : List Float). tabulate (f l) (a .count)) (at .log-row .ensures ∙ logs-are v)
+    ∙ ap (λ (l : List Float). tabulate (f l) (a .count)) (at .ln-1p-row .ensures ∙ logs-are v)
     ∙ sym (tabulate-part (centredAt (a .radius) (logs v)) nan (length v) (a .from) (a .count) (omega arith))
 
 pub centre-band-spec : {M : Type 1} → statement M

@@ -3,7 +3,7 @@ use mathlib.Core.Bool.{Bool, true, false, cond}
 use mathlib.Core.Path.{_≡_, refl}
 use lib.Ieee.{Float, lt, ofBits, div}
 use borrow.Author.Needs.{needs}
-use Rattle.numbers.specs.Logarithm.{sqrt2, half, mantissa, exponent, logAt, logHalved, logOf}
+use Rattle.numbers.specs.Logarithm.{sqrt2, half, mantissa, exponent, logAt, logOf}
 use Rattle.numbers.specs.Arithmetic.{_⊕_, _⊗_, one}
 use Rattle.numbers.proofs.root.Rooted.{le-no-nan}
 use Rattle.numbers.proofs.logarithm.ln.Statement.{statement}
