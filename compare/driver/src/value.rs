@@ -6,6 +6,8 @@ pub trait Value: Copy + Send + Sync {
     fn is_nan(self) -> bool;
     /// Bits and value, for a report.
     fn shown(self) -> String;
+    /// Those that a function may treat apart.
+    fn odd() -> Vec<Self>;
 }
 
 impl Value for f64 {
@@ -20,6 +22,10 @@ impl Value for f64 {
     }
     fn shown(self) -> String {
         format!("{:016x} ({self:?})", self.to_bits())
+    }
+    fn odd() -> Vec<Self> {
+        let all = [0.0, 1.0, 5e-324, f64::MAX, f64::INFINITY, f64::NAN];
+        all.into_iter().flat_map(|x| [x, -x]).collect()
     }
 }
 
@@ -36,6 +42,10 @@ impl Value for f32 {
     fn shown(self) -> String {
         format!("{:08x} ({self:?})", self.to_bits())
     }
+    fn odd() -> Vec<Self> {
+        let all = [0.0, 1.0, 1e-45, f32::MAX, f32::INFINITY, f32::NAN];
+        all.into_iter().flat_map(|x| [x, -x]).collect()
+    }
 }
 
 impl Value for bool {
@@ -50,6 +60,9 @@ impl Value for bool {
     }
     fn shown(self) -> String {
         self.to_string()
+    }
+    fn odd() -> Vec<Self> {
+        vec![false, true]
     }
 }
 

@@ -3,10 +3,12 @@ ghost use lib.Dec.{eqb};
 ghost use lib.ListN.{length};
 ghost use mathlib.Core.Bool.{cond};
 ghost use mathlib.Core.Path.{_≡_};
+ghost use Rattle.number_rows.specs.Logs.{logsOf};
 ghost use Rattle.number_rows.specs.Rows.{rootsOf};
+use number_rows::ln_1p_row::ln_1p_row;
 use number_rows::root_row::root_row;
 
-// Whether the row of roots is as long as that of numbers; if not, nothing is written.
+// Each answers whether the row to be filled is as long as that of numbers; if not, nothing is written.
 #[no_mangle]
 pub extern "C" fn numbers_root_row(roots: &mut [f64], x: &[f64]) -> bool
     ensures { λ r. ⌜ r ≡ eqb (length (now (roots .entry))) (length (now (x .entry))) ⌝ }
@@ -14,6 +16,18 @@ pub extern "C" fn numbers_root_row(roots: &mut [f64], x: &[f64]) -> bool
 {
     if roots.len() == x.len() {
         root_row(roots, x);
+        return true;
+    }
+    false
+}
+
+#[no_mangle]
+pub extern "C" fn numbers_ln_1p_row(logs: &mut [f32], w: &[f32]) -> bool
+    ensures { λ r. ⌜ r ≡ eqb (length (now (logs .entry))) (length (now (w .entry))) ⌝ }
+    ensures { λ _. ⌜ now (logs .exit) ≡ cond (eqb (length (now (logs .entry))) (length (now (w .entry)))) (logsOf (now (w .entry))) (now (logs .entry)) ⌝ }
+{
+    if logs.len() == w.len() {
+        ln_1p_row(logs, w);
         return true;
     }
     false

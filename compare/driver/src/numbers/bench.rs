@@ -41,38 +41,52 @@ pub fn table() -> String {
     format!(
         "{HEAD}{rows}\nNanoseconds per call, the least of {ROUNDS} medians of {REPEATS}. \
          A call that does nothing: latency {latency:.1}, throughput {throughput:.1}.\n\n{}",
-        root_in_row()
+        in_rows()
     )
 }
 
-/// As long as a block of the scores.
+/// As long as a block.
 const ROW: usize = 120;
 
-/// What a root takes in a row, ours beside `f64::sqrt` of each number: the least of all repeats.
-fn root_in_row() -> String {
+/// What a number takes in a row, ours beside the Rust's function of each.
+fn in_rows() -> String {
     let x: Vec<f64> = doubles(983..=1063).iter().map(|x| x.abs()).collect();
+    let root = in_row("root", "`f64::sqrt`", &x, ours::root_row, f64::sqrt);
+    let (of_row, of_one) = (ours::ln_1p_row, replaced::ln_1p);
+    let log = in_row("`ln_1p`", "`replaced`", &floats(), of_row, of_one);
+    format!("{root}{log}")
+}
+
+/// The least of all repeats.
+fn in_row<V: Value + Default>(
+    name: &str,
+    beside: &str,
+    x: &[V],
+    of_row: fn(&mut [V], &[V]) -> bool,
+    of_one: impl Fn(V) -> V,
+) -> String {
     let [mut ours, mut theirs] = [f64::INFINITY; 2];
     for _ in 0..ROUNDS * REPEATS {
-        ours = ours.min(row_by_row(&x, |roots, row| {
-            ours::root_row(roots, row);
+        ours = ours.min(row_by_row(x, |filled, row| {
+            of_row(filled, row);
         }));
-        theirs = theirs.min(row_by_row(&x, |roots, row| {
-            roots.iter_mut().zip(row).for_each(|(r, x)| *r = x.sqrt());
+        theirs = theirs.min(row_by_row(x, |filled, row| {
+            filled.iter_mut().zip(row).for_each(|(y, &x)| *y = of_one(x));
         }));
     }
     format!(
-        "A root in rows of {ROW}: ours {ours:.2}, `f64::sqrt` {theirs:.2}, ratio {:.2}.\n",
+        "{name} in rows of {ROW}: ours {ours:.2}, {beside} {theirs:.2}, ratio {:.2}.\n",
         ours / theirs
     )
 }
 
-fn row_by_row(x: &[f64], act: impl Fn(&mut [f64], &[f64])) -> f64 {
-    let mut roots = [0.0; ROW];
+fn row_by_row<V: Value + Default>(x: &[V], act: impl Fn(&mut [V], &[V])) -> f64 {
+    let mut filled = [V::default(); ROW];
     let rows = x.chunks_exact(ROW);
     let count = rows.len() * ROW;
     let begun = Instant::now();
     for row in rows {
-        act(black_box(&mut roots), black_box(row));
+        act(black_box(&mut filled), black_box(row));
     }
     nanoseconds(begun, count)
 }

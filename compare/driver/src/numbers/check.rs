@@ -12,6 +12,7 @@ pub fn check(effort: Effort) -> bool {
         narrow_and_root(effort),
         powers(effort),
         logarithms(effort),
+        rows::check(effort),
     ];
     results.into_iter().all(|same| same)
 }
@@ -43,7 +44,6 @@ fn narrow_and_root(effort: Effort) -> bool {
     compare("narrow", ours::narrow, |x| x as f32, &narrow, effort)
         & compare("root", ours::root, f64::sqrt, &root, effort)
         & compare("root in a row", rows::root_in_row, f64::sqrt, &root, effort)
-        & rows::check(effort)
 }
 
 fn powers(effort: Effort) -> bool {
@@ -54,7 +54,9 @@ fn powers(effort: Effort) -> bool {
 
 fn logarithms(effort: Effort) -> bool {
     let (ln, ln_1p) = (inputs::ln(effort), inputs::ln_1p(effort));
+    let rows = inputs::ln_1p_rows(effort, rows::ROW);
     compare("ln", ours::ln, replaced::ln, &ln, effort)
         & compare("log10", ours::log10, replaced::log10, &ln, effort)
         & compare("ln_1p", ours::ln_1p, replaced::ln_1p, &ln_1p, effort)
+        & compare("rows of ln_1p", rows::logs_from, |_| true, &rows, effort)
 }

@@ -114,6 +114,22 @@ pub fn ln_1p(effort: Effort) -> Vec<Family<f32>> {
     ]
 }
 
+/// Where rows of f32 begin, by their patterns: so that they hold every f32 that is not negative, or
+/// one row in some; and rows of negative ones, of infinities and NaNs.
+pub fn ln_1p_rows(effort: Effort, row: u32) -> Vec<Family<f32>> {
+    let stride = effort.pick(100_003, u64::from(row));
+    let count = effort.pick(1_000, 100_000);
+    vec![
+        strided(INFINITE_F32, stride),
+        Family::new(count, |n| f32::from_bits(pattern(n) as u32 | 0x8000_0000)),
+    ]
+}
+
+/// A finite f32, not negative.
+pub fn finite_f32(n: u64) -> f32 {
+    f32::from_bits(pattern(n) as u32 % INFINITE_F32)
+}
+
 /// Any f64.
 fn patterns(count: u64) -> Family<f64> {
     Family::new(count, |n| f64::from_bits(pattern(n)))

@@ -34,10 +34,17 @@ exported! {
 // Proved to read and write within the slices given.
 unsafe extern "C" {
     fn numbers_root_row(roots: *mut f64, roots_len: usize, x: *const f64, x_len: usize) -> bool;
+    fn numbers_ln_1p_row(logs: *mut f32, logs_len: usize, w: *const f32, w_len: usize) -> bool;
 }
 
 /// Writes the roots of x, and says whether it has: the lengths must be equal.
 pub fn root_row(roots: &mut [f64], x: &[f64]) -> bool {
     // SAFETY: the pointers and lengths are of slices.
     unsafe { numbers_root_row(roots.as_mut_ptr(), roots.len(), x.as_ptr(), x.len()) }
+}
+
+/// Writes ln(1 + w) of each w, and says whether it has: the lengths must be equal.
+pub fn ln_1p_row(logs: &mut [f32], w: &[f32]) -> bool {
+    // SAFETY: the pointers and lengths are of slices.
+    unsafe { numbers_ln_1p_row(logs.as_mut_ptr(), logs.len(), w.as_ptr(), w.len()) }
 }

@@ -1,9 +1,10 @@
-//! The root of a row: each number among others, and whole rows.
+//! The functions of a row: each number among others, and whole rows.
 
-use super::inputs::of_field;
+use super::inputs::{finite_f32, of_field};
 use super::ours;
 use crate::compare::Effort;
-use crate::value::same;
+use crate::value::{same, Value};
+use sonalign::replaced;
 
 /// √x, worked out in a row with x at four places and three numbers that any row serves; and a
 /// number that is no root of x where the row does not have its roots everywhere.
@@ -24,43 +25,63 @@ pub fn root_in_row(x: f64) -> f64 {
 /// Below zero, and no NaN: no root is.
 const NO_ROOT: f64 = -1.0;
 
-/// Lengths up to more than two blocks of the scores.
+/// How many numbers stand in a row of `logs_from`: two blocks and a part of one.
+pub const ROW: u32 = 256;
+
+/// Whether a row of the f32 from `first` on, by their patterns, has the logarithm of each.
+pub fn logs_from(first: f32) -> bool {
+    let from = first.to_bits();
+    let row: Vec<f32> = (0..ROW)
+        .map(|i| f32::from_bits(from.wrapping_add(i)))
+        .collect();
+    is_same(&row, ours::ln_1p_row, replaced::ln_1p)
+}
+
+pub fn check(effort: Effort) -> bool {
+    let root = |n| of_field(n, &(100..=1_900)).abs();
+    rows("root_row", effort, ours::root_row, f64::sqrt, root)
+        & rows("ln_1p_row", effort, ours::ln_1p_row, replaced::ln_1p, finite_f32)
+}
+
+/// Lengths up to more than two blocks.
 const LENGTHS: u64 = 260;
 
-/// Rows of every length, of positive numbers whose roots the passes find; in every third one number
-/// is exchanged for one that they do not serve. Also a row of another length than its roots'.
-pub fn check(effort: Effort) -> bool {
-    let each = effort.pick(8, 400);
-    let rows = LENGTHS * each;
-    let different = (0..rows).filter(|&n| !row_is_same(n)).count();
-    let mut kept = [7.0; 3];
-    let refused = !ours::root_row(&mut kept, &[1.0; 4]) && kept == [7.0; 3];
-    println!("root_row      {rows:>10} rows, {different} differences");
+/// Rows of every length, of numbers that the passes serve; in every third one number is exchanged
+/// for one that some do not. Also a row of another length than the one to be filled.
+fn rows<V: Value>(
+    name: &str,
+    effort: Effort,
+    of_row: fn(&mut [V], &[V]) -> bool,
+    of_one: fn(V) -> V,
+    served: impl Fn(u64) -> V,
+) -> bool {
+    let count = LENGTHS * effort.pick(8, 400);
+    let row = |n: u64| {
+        let length = n % LENGTHS;
+        let mut x: Vec<V> = (0..length).map(|i| served(n * LENGTHS + i)).collect();
+        if n % 3 == 0 && length > 0 {
+            let odd = V::odd();
+            x[(n / 3 % length) as usize] = odd[n as usize / 7 % odd.len()];
+        }
+        x
+    };
+    let different = (0..count)
+        .filter(|&n| !is_same(&row(n), of_row, of_one))
+        .count();
+    let refused = refuses(of_row, served(0));
+    println!("{name:<13} {count:>10} rows, {different} differences");
     if !refused {
-        println!("root_row takes a row of another length, or writes to it");
+        println!("{name} takes a row of another length, or writes to it");
     }
     different == 0 && refused
 }
 
-const ODD: [f64; 8] = [
-    0.0,
-    -0.0,
-    -1.0,
-    f64::NAN,
-    f64::INFINITY,
-    f64::NEG_INFINITY,
-    5e-324,
-    f64::MAX,
-];
+fn is_same<V: Value>(x: &[V], of_row: fn(&mut [V], &[V]) -> bool, of_one: fn(V) -> V) -> bool {
+    let mut filled = vec![V::of_bits(7); x.len()];
+    of_row(&mut filled, x) && x.iter().zip(&filled).all(|(&x, &y)| same(y, of_one(x)))
+}
 
-fn row_is_same(n: u64) -> bool {
-    let length = n % LENGTHS;
-    let mut x: Vec<f64> = (0..length)
-        .map(|i| of_field(n * LENGTHS + i, &(100..=1_900)).abs())
-        .collect();
-    if n % 3 == 0 && length > 0 {
-        x[(n / 3 % length) as usize] = ODD[(n / 7 % 8) as usize];
-    }
-    let mut roots = vec![7.0; x.len()];
-    ours::root_row(&mut roots, &x) && x.iter().zip(&roots).all(|(x, &root)| same(root, x.sqrt()))
+fn refuses<V: Value>(of_row: fn(&mut [V], &[V]) -> bool, x: V) -> bool {
+    let mut kept = [V::of_bits(7); 3];
+    !of_row(&mut kept, &[x; 4]) && kept.iter().all(|y| y.bits() == 7)
 }
