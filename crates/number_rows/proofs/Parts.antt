@@ -135,12 +135,9 @@ unscale : (r : Bool) (c h n w : ℕ) → 0 < w → Minus false (c * w) false (h 
 unscale true c h n w W e = eq-of-mul-eq-mul-right w W (n + (c + 0)) (0 + h) (omega arith)
 unscale false c h n w W e = eq-of-mul-eq-mul-right w W (n + (0 + h)) (c + 0) (omega arith)
 
--- 2.0 and 2 ^ -52
+-- 2.0
 abbrev pub two : Float
 two = ofBits binary64 0x4000_0000_0000_0000
-
-abbrev pub last : Float
-last = ofBits binary64 0x3cb0_0000_0000_0000
 
 module _ (j c : ℕ) (lo : 2 ^ 52 < c) (hi : c ≤ 2 ^ 53) (J : 537 ≤ j) (J' : j ≤ 1500) where
   abbrev b : ℕ
@@ -164,7 +161,7 @@ module _ (j c : ℕ) (lo : 2 ^ 52 < c) (hi : c ≤ 2 ^ 53) (J : 537 ≤ j) (J' :
   low = sub binary64 s high
 
   abbrev unit : Float
-  unit = ofBits binary64 ((b - 1) / 4503599627370496 * 4503599627370496)
+  unit = ofBits binary64 ((b - 234187180623265793) / 4503599627370496 * 4503599627370496)
 
   pub record Halves : Type 0 where
     pub sign : Bool
@@ -177,7 +174,7 @@ module _ (j c : ℕ) (lo : 2 ^ 52 < c) (hi : c ≤ 2 ^ 53) (J : 537 ≤ j) (J' :
     pub high-high : Units binary64 (mul binary64 high high) false (H * H * 2 ^ 54 * 2 ^ K)
     pub high-low : Units binary64 (mul binary64 (mul binary64 two high) low) sign (H * rest * 2 ^ 28 * 2 ^ K)
     pub low-low : Units binary64 (mul binary64 low low) false (rest * rest * 2 ^ K)
-    pub bound : Units binary64 (mul binary64 unit (mul binary64 s last)) false (c * 2 ^ K)
+    pub bound : Units binary64 (mul binary64 unit s) false (c * 2 ^ K)
 
   H-from : 2 ^ 25 ≤ H
   H-from = omega arith
@@ -198,10 +195,14 @@ module _ (j c : ℕ) (lo : 2 ^ 52 < c) (hi : c ≤ 2 ^ 53) (J : 537 ≤ j) (J' :
       same : j * 2 ^ 52 + H * 2 ^ 27 ≡ (b + 67108864) / 134217728 * 134217728
       same = omega arith
 
-  unit-is : Units binary64 unit false (1 * 2 ^ (j + 52))
-  unit-is = subst (λ (n : ℕ). Units binary64 (ofBits binary64 n) false (1 * 2 ^ (j + 52))) same (power j J')
+  -- the last digit of s, or of the numbers below where it is a power of two
+  unit-is : Units binary64 unit false (1 * 2 ^ j)
+  unit-is = subst (λ (n : ℕ). Units binary64 (ofBits binary64 n) false (1 * 2 ^ j)) same (subst (λ (n : ℕ). Units binary64 (ofBits binary64 ((j - 52) * 2 ^ 52 + 2 ^ 52)) false (1 * 2 ^ n)) down (power (j - 52) (omega arith)))
     where
-      same : j * 2 ^ 52 + 2 ^ 52 ≡ (b - 1) / 4503599627370496 * 4503599627370496
+      down : j - 52 + 52 ≡ j
+      down = omega arith
+
+      same : (j - 52) * 2 ^ 52 + 2 ^ 52 ≡ (b - 234187180623265793) / 4503599627370496 * 4503599627370496
       same = omega arith
 
   -- its digits are those of H
@@ -220,9 +221,6 @@ module _ (j c : ℕ) (lo : 2 ^ 52 < c) (hi : c ≤ 2 ^ 53) (J : 537 ≤ j) (J' :
 
   twice : Units binary64 (mul binary64 two high) false (H * 2 ^ (j + 28))
   twice = product two high false false false 1 1075 H (27 + j) H (j + 28) (power 1023 (lit≤ tt)) high-at refl (one-mul H) (omega arith) (le-trans H-to (lit≤ tt)) (omega arith)
-
-  s-last : Units binary64 (mul binary64 s last) false (c * 2 ^ (j - 52))
-  s-last = product s last false false false c j 1 1022 c (j - 52) s-is (power 970 (lit≤ tt)) refl (mul-one c) (omega arith) hi (omega arith)
 
   pub halves : Halves
   halves =
@@ -244,7 +242,7 @@ module _ (j c : ℕ) (lo : 2 ^ 52 < c) (hi : c ≤ 2 ^ 53) (J : 537 ≤ j) (J' :
         high-low = apart (mul binary64 (mul binary64 two high) low) z (H * n) 28
             (product (mul binary64 two high) low false z z H (j + 28) n j (H * n) (28 + K) twice low-is (plain z) refl (omega arith) (le-trans (mul-le-mul H-to R) (lit≤ tt)) (omega arith));
         low-low = product low low z z false n j n j (n * n) K low-is low-is (alike z) refl K-is (le-trans (mul-le-mul R R) (lit≤ tt)) (omega arith);
-        bound = product unit (mul binary64 s last) false false false 1 (j + 52) c (j - 52) c K unit-is s-last refl (one-mul c) (omega arith) hi (omega arith);
+        bound = product unit s false false false 1 j c j c K unit-is s-is refl (one-mul c) K-is hi (omega arith);
       }
     where
       room : 53 + j ≤ 2098

@@ -174,8 +174,8 @@ module _ (s : Float) (r : Ranged s) where
   pub ranged-le : toBits binary64 s ≤ 1502 * 2 ^ 52
   ranged-le = subst (λ (k : ℕ). k ≤ 1502 * 2 ^ 52) (sym ranged-bits) b-le
 
-  pub ranged-ge : 1 ≤ toBits binary64 s
-  ranged-ge = subst (λ (k : ℕ). 1 ≤ k) (sym ranged-bits) (some (r .place) (r .digits) (r .digits-gt))
+  pub ranged-ge : 537 * 2 ^ 52 ≤ toBits binary64 s
+  ranged-ge = subst (λ (k : ℕ). 537 * 2 ^ 52 ≤ k) (sym ranged-bits) (some (r .place) (r .digits) (r .place-ge))
     where
-      some : (j c : ℕ) → 4503599627370496 < c → 1 ≤ j * 4503599627370496 + c
+      some : (j c : ℕ) → 537 ≤ j → 537 * 4503599627370496 ≤ j * 4503599627370496 + c
       some j c h = omega arith

@@ -19,7 +19,7 @@ use Rattle.number_laws.proofs.Placed.{placed-units}
 use Rattle.number_rows.specs.Rows.{Ranged}
 use Rattle.number_rows.proofs.Differences.{Minus, in-units, sub-finite, sub-exact, sub-back, under}
 use Rattle.number_rows.proofs.Gaps.{reach, parts-of, square, second-lt, first-lt, sign-plus, first-multiple, second-multiple, kept, P-lt, N-lt, joined, nearest}
-use Rattle.number_rows.proofs.Parts.{halves, two, last}
+use Rattle.number_rows.proofs.Parts.{halves, two}
 use Rattle.number_rows.proofs.Range.{ranged-bits}
 use Rattle.number_rows.proofs.Settled.{settled}
 
@@ -171,7 +171,7 @@ abbrev rest : Float → Float → ℕ → Float
 rest x s b = sub binary64 (sub binary64 (sub binary64 x (mul binary64 (high b) (high b))) (mul binary64 (mul binary64 two (high b)) (low s b))) (mul binary64 (low s b) (low s b))
 
 abbrev bound : Float → ℕ → Float
-bound s b = mul binary64 (ofBits binary64 ((b - 1) / 4503599627370496 * 4503599627370496)) (mul binary64 s last)
+bound s b = mul binary64 (ofBits binary64 ((b - 234187180623265793) / 4503599627370496 * 4503599627370496)) s
 
 abbrev Passed : Float → Float → ℕ → Type 0
 Passed x s b = lt (atLeast (neg (rest x s b)) (rest x s b)) (bound s b) ≡ true

@@ -49,12 +49,12 @@ fn near_row(roots: &mut [f64], x: &[f64])
 }
 
 // A number near √x, to about one part in 2 ^ 23. Half the pattern, taken off a constant, is that of a
-// number near 1 / √x but for a factor; one of Newton's steps, with constants fitted to that factor,
-// gives half of 1 / √x, and one of Heron's ends at √x.
+// number near 1 / √x but for a factor; one of Newton's steps, by a factor such that it has but one
+// constant, gives half of 1 / √x, and one of Heron's ends at √x.
 fn near(x: f64) -> f64 {
     let v: f64 = at_least(1.0e-280, x);
-    let y: f64 = f64::from_bits(0x5fec_0000_0000_0000 - f64::to_bits(v) / 2);
-    let h: f64 = y * (0.594640145 - v * (y * y) * 0.1244385185);
+    let y: f64 = f64::from_bits(0x5fdb_f800_0000_0000 - f64::to_bits(v) / 2);
+    let h: f64 = y * (1.19107346 - v * (y * y));
     v * h + 0.24999995 / h
 }
 
@@ -129,15 +129,16 @@ fn in_range(s: f64) -> f64
     at_most(MOST, at_least(LEAST, s))
 }
 
-// 2 ^ 52, the weight of a pattern's exponent; and 2 ^ -52, the last digit of a number from 1 up to 2.
+// 2 ^ 52, the weight of a pattern's exponent; and what lies between a pattern and that of the number's
+// last digit, which is 52 places down: one more, since at a power of two the last digit is that of the
+// numbers below, which are its neighbours too.
 const LEADING: u64 = 0x10_0000_0000_0000;
 
-const LAST: f64 = 2.220446049250313e-16;
+const LAST: u64 = 52 * LEADING + 1;
 
 // Whether s is surely the root of x. In units of its last digit s is a whole number c, and it is the
 // nearest to the root if x - s * s is less than c such units squared. By halves of s each product is
-// exact, and where the difference is so small the first two subtractions are. At a power of two the
-// last digit is that of the numbers below, which are its neighbours too: hence b - 1.
+// exact, and where the difference is so small the first two subtractions are.
 fn is_root(x: f64, s: f64) -> bool
     requires { ⌜ Ranged s ⌝ }
     ensures { λ r. ⌜ (r ≡ true → s ≡ rootOf x) ⌝ }
@@ -146,6 +147,6 @@ fn is_root(x: f64, s: f64) -> bool
     let high: f64 = f64::from_bits((b + HALF / 2) / HALF * HALF);
     let low: f64 = s - high;
     let rest: f64 = x - high * high - 2.0 * high * low - low * low;
-    let unit: f64 = f64::from_bits((b - 1) / LEADING * LEADING);
-    at_least(-rest, rest) < unit * (s * LAST)
+    let unit: f64 = f64::from_bits((b - LAST) / LEADING * LEADING);
+    at_least(-rest, rest) < unit * s
 }
