@@ -1,6 +1,6 @@
 -- What the passes over a row of logarithms share: that numbers below plus infinity go through them, one more place of a row, and that what the passes give is `ln_1p`. Assumes nothing.
 use mathlib.Core.Path.{_≡_, refl, sym, subst, ap, _∙_}
-use mathlib.Core.Bool.{Bool, Bool·beq, true, false, true≢false, cond, not, _&&_}
+use mathlib.Core.Bool.{Bool, Bool·beq, true, false, cond, not, _&&_}
 use mathlib.Core.List.{List}
 use Prim.Native.Nat.{ℕ, zero, suc, _+_, _-_, _*_, _≤_, _<_}
 use native.Mathlib.Nat.{zero-lt-suc, not-suc-le-zero, lt-irrefl, lt-of-lt-of-le, sub-zero, zero-add, add-zero, zero-mul, mul-one, one-mul}
@@ -15,9 +15,10 @@ use lib.Ieee.{Float, nan, inf, fin, binary32, binary64, up, down, sum, round, ad
 use lib.Ieee.Fits.{mul-fits}
 use Rattle.numbers.specs.Arithmetic.{_⊕_, _⊖_, _⊗_, _⊘_, zero⁺, one, two}
 use Rattle.numbers.specs.Exponential.{hi, lo}
-use Rattle.numbers.specs.Logarithm.{half, sqrt2, seriesMost, mantissa, exponent, logSeries, logTwice, logAt, logOf, log1pWide, log1pOf}
+use Rattle.numbers.specs.Logarithm.{sqrt2, seriesMost, mantissa, exponent, logSeries, logTwice, logOf, log1pWide, log1pOf}
 use Rattle.numbers.specs.Narrow.{nearestF32}
 use Rattle.numbers.proofs.Encode.{round-no-nan}
+use Rattle.numbers.proofs.logarithm.Chosen.{chosen}
 use Rattle.number_laws.specs.Values.{Normal}
 use Rattle.number_laws.proofs.Order.{lt→le, not-le→lt, le-transitive}
 use Rattle.number_laws.proofs.Placed.{round-own}
@@ -53,15 +54,6 @@ one-more-number (fin s m e) b = subst (λ (n : Bool). T (not n)) (sym (sum-no-na
 -- the same of an x that is w
 pub one-more-of : (x w : Float) → x ≡ w → Below w → T (not (isNan (one ⊕ x)))
 one-more-of x w e b = subst (λ (y : Float). T (not (isNan (one ⊕ y)))) (sym e) (one-more-number w b)
-
--- ---- both of two tests
-pub both-l : (a b : Bool) → (a && b) ≡ true → a ≡ true
-both-l true b h = refl
-both-l false b h = h
-
-pub both-r : (a b : Bool) → (a && b) ≡ true → b ≡ true
-both-r true b h = h
-both-r false b h = absurd (true≢false (sym h))
 
 -- ---- one more place of a row
 pub holds-more : (g : ℕ → Float) (n : ℕ) (row : List Float) {v : Float} → ((k : ℕ) → k < n → getD row k nan ≡ g k) → v ≡ g n → n < length row
@@ -132,10 +124,6 @@ seriesOf s = logSeries 12 (s ⊗ s) zero⁺
 small-is : (t : Float) → T (fits binary64 t) → neg zero⁺ ⊗ hi ⊕ (neg zero⁺ ⊗ lo ⊕ t) ≡ t
 small-is t F = rw (minus-zero-hi, minus-zero-lo, minus-zero-add t F) (minus-zero-add t F)
 
-large-is : (b : Bool) (m e : Float) → logAt (cond b (m ⊗ half) m) (cond b (e ⊕ one) e) ≡ cond b (logAt (m ⊗ half) (e ⊕ one)) (logAt m e)
-large-is true m e = refl
-large-is false m e = refl
-
 -- above 0.375, 1 + w is normal
 large-normal : (w : Float) → T (fits binary32 w) → Below w → T (not (le w seriesMost)) → Normal (one ⊕ w)
 large-normal nan F b h = absurd (unfold lt in b)
@@ -164,7 +152,7 @@ wide-is w F b = go (le w seriesMost) (large-normal w F b)
     go : (small : Bool) → (T (not small) → Normal v)
         → cond small (neg zero⁺) e ⊗ hi ⊕ (cond small (neg zero⁺) e ⊗ lo ⊕ two ⊗ (r small ⊗ seriesOf (r small))) ≡ cond small (logTwice (w ⊘ (two ⊕ w))) (logOf v)
     go true n = small-is (logTwice (w ⊘ (two ⊕ w))) (mul-fits binary64 two _)
-    go false n = large-is (lt sqrt2 (mantissa v)) (mantissa v) (exponent v) ∙ sym (log-is v (n tt))
+    go false n = chosen (lt sqrt2 (mantissa v)) (mantissa v) (exponent v) ∙ sym (log-is v (n tt))
 
 -- ---- what a block adds to the logarithms that stand before it
 pub record Passed (w : List Float) (at n : ℕ) (powers ratios sums near logs : List Float) : Type 0 where

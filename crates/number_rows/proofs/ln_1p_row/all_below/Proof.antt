@@ -1,12 +1,15 @@
 -- `number_rows::ln_1p_row::all_below` meets its contract. The loop's invariant: if all so far were below, so many are. Assumes nothing.
-use mathlib.Core.Path.{_≡_}
+use mathlib.Core.Path.{_≡_, sym, subst}
 use Prim.Native.Nat.{ℕ, _-_, _≤_, _<_}
 use native.Mathlib.Omega.{arith}
 use borrow.Author.Count.{below-more}
 use borrow.Author.Needs.{needs}
 use lib.ListN.{getD, length}
+use lib.Dec.{T}
+use lib.Ieee.Bits.{is-true}
+use lib.Ieee.Fits.{and-l, and-r}
 use lib.Ieee.{nan}
-use Rattle.number_rows.proofs.LogPasses.{none, both-l, both-r}
+use Rattle.number_rows.proofs.LogPasses.{none}
 use mathlib.Core.Bool.{true}
 use Rattle.number_rows.specs.Logs.{Below}
 use Rattle.number_rows.proofs.ln_1p_row.all_below.Statement.{statement}
@@ -25,8 +28,12 @@ loop-again : tie.Need-loop-again Inv-loop μ-loop
 loop-again c =
     let now = c .before .before .before .loop in
     let w = c .before .before .before .before .before .args .w .now in
-    let next = c .is-below in
-    (omega arith, λ h. below-more (λ (k : ℕ). Below (getD w k nan)) (now .i) (now .inv .1 (both-l (now .below) (next .result) h)) (next .ensures (both-r (now .below) (next .result) h)))
+    let next = c .is-below in (
+      omega arith,
+      λ h.
+          let both = subst T (sym h) tt in
+          below-more (λ (k : ℕ). Below (getD w k nan)) (now .i) (now .inv .1 (is-true _ (and-l (now .below) (next .result) both))) (next .ensures (is-true _ (and-r (now .below) (next .result) both))),
+    )
 
 returns : tie.Need-returns Inv-loop μ-loop
 returns c h k b = c .before .loop .inv .1 h k (omega arith)

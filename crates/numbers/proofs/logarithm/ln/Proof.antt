@@ -1,18 +1,11 @@
 -- `numbers::logarithm::ln` meets its contract. Assumes nothing.
-use mathlib.Core.Bool.{Bool, true, false, cond}
-use mathlib.Core.Path.{_≡_, refl}
-use lib.Ieee.{Float, lt, ofBits, div}
+use lib.Ieee.{lt, ofBits, div}
 use borrow.Author.Needs.{needs}
-use Rattle.numbers.specs.Logarithm.{sqrt2, half, mantissa, exponent, logAt, logOf}
-use Rattle.numbers.specs.Arithmetic.{_⊕_, _⊗_, one}
+use Rattle.numbers.specs.Logarithm.{sqrt2, mantissa, exponent, logOf}
+use Rattle.numbers.proofs.logarithm.Chosen.{chosen}
 use Rattle.numbers.proofs.root.Rooted.{le-no-nan}
 use Rattle.numbers.proofs.logarithm.ln.Statement.{statement}
 use Rattle.numbers.proofs.logarithm.ln.Tie as tie
-
--- the choice inside, made twice, is the choice outside
-chosen : (b : Bool) (m e : Float) → logAt (cond b (m ⊗ half) m) (cond b (e ⊕ one) e) ≡ cond b (logAt (m ⊗ half) (e ⊕ one)) (logAt m e)
-chosen true m e = refl
-chosen false m e = refl
 
 mantissa-requires : tie.Need-mantissa-requires
 mantissa-requires c κs = le-no-nan _ _ (c .before .if1 .taken)

@@ -1,0 +1,2 @@
+-- What the proofs of the logarithms share.
+pub mod Chosen
