@@ -11,7 +11,9 @@ use lib.Seq.{length-take-le, take-append-le, take-append-add, getD-append-add, g
 use borrow.Rule.Slice.PartMut.{putMid, postOf, same-len-mid, mid-len, drop-put}
 use Rattle.matcher_bands.specs.Rows.{tabulate, rows}
 use Rattle.matcher_bands.specs.Centring.{logs, sumOf, meanAround, centredAt}
+use Rattle.numbers.specs.Arithmetic.{_⊕_, _⊖_, _⊗_, _⊘_, real}
 use Rattle.numbers.specs.Logarithm.{log1pOf}
+use Rattle.numbers.specs.Narrow.{nearestF32}
 use Rattle.number_rows.specs.Logs.{logsOf}
 use Rattle.number_rows.proofs.Rows.{length-logs, log-at}
 use Rattle.matcher_bands.proofs.RowLaws.{length-tabulate, getD-tabulate, Filled, next-row}
@@ -100,3 +102,13 @@ unfolding logs
 logs-are v =
     let f : ℕ → Float = λ i. log1pOf (getD v i nan) in
     ext-getD nan (logsOf v) (tabulate f (length v)) (length-logs v ∙ sym (length-tabulate f (length v))) (λ i l. log-at v i ∙ sym (getD-tabulate f (length v) i nan (rw (length-logs v) at l)))
+
+-- ---- the mean over frames that lie within the row
+pub inside : (sums : ℕ → Float) (n : ℕ) (first last : Float) (r i : ℕ) → r ≤ i → i + r + 1 ≤ n
+    → meanAround sums n first last r i ≡ nearestF32 (((sums (i + r + 1) ⊖ sums (i - r)) ⊕ real 0 ⊗ first ⊕ real 0 ⊗ last) ⊘ real (2 * r + 1))
+unfolding meanAround
+inside sums n first last r i h k =
+    let m : min n (i + r + 1) ≡ i + r + 1 = omega (arith, k) in
+    let b : r - i ≡ 0 = omega (arith, h) in
+    let a : i + r + 1 - n ≡ 0 = omega (arith, k) in
+    rw (m, b, a) refl

@@ -53,6 +53,32 @@ fn mean_around(sums: &[f64], first: f32, last: f32, radius: usize, i: usize) -> 
     requires { ⌜ i + 1 < length (now sums) ⌝ ∗ ⌜ radius ≤ 250 ⌝ }
     ensures { λ r. ⌜ r ≡ meanAround (λ (k : ℕ). getD (now (sums .entry)) k nan) (length (now (sums .entry)) - 1) first last radius i ⌝ }
 {
+    let past = i + radius + 1;
+    if radius <= i {
+        if past < sums.len() {
+            return mean_inside(sums, first, last, radius, i);
+        }
+    }
+    mean_at_end(sums, first, last, radius, i)
+}
+
+// The same where the frames lie within the row, as nearly all do. No value is repeated then, and
+// what that adds is the same for each i.
+fn mean_inside(sums: &[f64], first: f32, last: f32, radius: usize, i: usize) -> f32
+    requires { ⌜ radius ≤ i ⌝ ∗ ⌜ i + radius + 1 < length (now sums) ⌝ ∗ ⌜ radius ≤ 250 ⌝ }
+    ensures { λ r. ⌜ r ≡ meanAround (λ (k : ℕ). getD (now (sums .entry)) k nan) (length (now (sums .entry)) - 1) first last radius i ⌝ }
+{
+    let sum = sums[i + radius + 1] - sums[i - radius];
+    let before = real(0) * widen(first);
+    let after = real(0) * widen(last);
+    narrow((sum + before + after) / real(2 * radius + 1))
+}
+
+// The same where they may reach past an end.
+fn mean_at_end(sums: &[f64], first: f32, last: f32, radius: usize, i: usize) -> f32
+    requires { ⌜ i + 1 < length (now sums) ⌝ ∗ ⌜ radius ≤ 250 ⌝ }
+    ensures { λ r. ⌜ r ≡ meanAround (λ (k : ℕ). getD (now (sums .entry)) k nan) (length (now (sums .entry)) - 1) first last radius i ⌝ }
+{
     let n = sums.len() - 1;
     let past = i + radius + 1;
     let high = least(n, past);

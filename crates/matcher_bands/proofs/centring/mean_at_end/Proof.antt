@@ -1,15 +1,15 @@
--- `matcher_bands::centring::mean_around` meets its contract. Assumes nothing.
+-- `matcher_bands::centring::mean_at_end` meets its contract. Assumes nothing.
 use borrow.Author.Needs.{needs}
 use Rattle.matcher_bands.specs.Centring.{meanAround}
-use Rattle.matcher_bands.proofs.centring.mean_around.Statement.{statement}
-use Rattle.matcher_bands.proofs.centring.mean_around.Tie as tie
+use Rattle.matcher_bands.proofs.centring.mean_at_end.Statement.{statement}
+use Rattle.matcher_bands.proofs.centring.mean_at_end.Tie as tie
 
 returns : tie.Need-returns
 unfolding meanAround
 returns c = cc
 
-pub mean-around-spec : {M : Type 1} → statement M
-mean-around-spec =
+pub mean-at-end-spec : {M : Type 1} → statement M
+mean-at-end-spec =
     tie.close
     (tie.spec
     (λ c. search needs)
