@@ -14,6 +14,7 @@ ghost use Rattle.numbers.specs.Logarithm.{logSeries, seriesMost};
 ghost use Rattle.numbers.specs.Narrow.{nearestF32};
 use numbers::constants::HI;
 use numbers::constants::LO;
+use numbers::constants::SERIES_MOST;
 use numbers::logarithm::exponent;
 use numbers::logarithm::halved;
 use numbers::logarithm::ln_1p;
@@ -169,7 +170,7 @@ fn wide(w: f32) -> f64
 fn by_size(x: f64, small: f64, large: f64) -> f64
     ensures { λ r. ⌜ r ≡ cond (le x seriesMost) small large ⌝ }
 {
-    if x <= 0.375 { small } else { large }
+    if x <= SERIES_MOST { small } else { large }
 }
 
 // s of each.

@@ -9,6 +9,7 @@ ghost use Rattle.numbers.specs.Logarithm.{exponent, half, log10Of, log1p
 use crate::constants::HI;
 use crate::constants::LN_10;
 use crate::constants::LO;
+use crate::constants::SERIES_MOST;
 use crate::float::widen;
 use crate::narrow::narrow;
 use crate::parts::LEADING;
@@ -72,7 +73,7 @@ pub fn ln_1p(w: f32) -> f32
     ensures { λ y. ⌜ y ≡ log1pOf w ⌝ }
 {
     let x: f64 = widen(w);
-    if x <= 0.375 {
+    if x <= SERIES_MOST {
         return narrow(log_twice(x / (2.0 + x)));
     }
     narrow(ln(1.0 + x))
