@@ -1,7 +1,7 @@
-// `ln_1p` of each number of a row, in short passes without a branch, so that they become vector code.
-// Each number goes the steps of `ln_1p` and `ln` in their order; both ways of it, up to 0.375 and
-// above, are worked out, and one is chosen. A row with a NaN or plus infinity is given to `ln_1p`, one
-// number after the other.
+// `ln_1p` of each number of a row, in short passes: all but the last, which narrows, have no branch,
+// so that they become vector code. Each number goes the steps of `ln_1p` and `ln` in their order; both
+// ways of it, up to 0.375 and above, are worked out, and one is chosen. A row with a NaN or plus
+// infinity is given to `ln_1p`, one number after the other.
 ghost use Prim.Native.Nat.{ℕ, _+_, _*_, _<_, _≤_};
 ghost use lib.IntN.{pos};
 ghost use lib.Ieee.{Float, binary64, le, nan, ofInt};
