@@ -6,16 +6,16 @@ use lib.Dec.{T, lit<}
 use lib.ListN.{length, getD}
 use lib.Ieee.{Float, binary32, fits}
 use Rattle.matcher_laws.specs.Words.{Every, F32}
-use Rattle.engine.specs.Refusals.{every}
-use Rattle.engine.specs.Chain.{Answered}
-use Rattle.engine.specs.Guarantee.{remaining, isComputed, AllHanded, nothing, next, Handed, Promised, unanswered}
-use Rattle.engine.specs.Opening.{opening, openedSettings, matcherOfFilm}
-use Rattle.engine.specs.Windows.{Window}
-use Rattle.engine.specs.declared.types.State.the-variants as state
-use Rattle.engine.specs.declared.types.Answer.the-variants as answer
-use Rattle.engine.proofs.Handed.{every-at}
-use Rattle.engine.proofs.Openings.{opened-filled}
-use Rattle.engine.proofs.Run.{guarantee}
+use Rattle.engine_spec.specs.Refusals.{every}
+use Rattle.engine_spec.specs.Chain.{Answered}
+use Rattle.engine_spec.specs.Guarantee.{remaining, isComputed, AllHanded, nothing, next, Handed, Promised, unanswered}
+use Rattle.engine_spec.specs.Opening.{opening, openedSettings, matcherOfFilm}
+use Rattle.engine_spec.specs.Windows.{Window}
+use Rattle.engine_spec.specs.declared.types.State.the-variants as state
+use Rattle.engine_spec.specs.declared.types.Answer.the-variants as answer
+use Rattle.engine_spec.proofs.Handed.{every-at}
+use Rattle.engine_spec.proofs.Openings.{opened-filled}
+use Rattle.engine_spec.proofs.Run.{guarantee}
 use Rattle.engine_sessions.specs.Computed.{submitNow}
 use Rattle.engine_sessions.specs.Session.{roomFor, heard, engineOf, submissions, replied, allReplied}
 use Rattle.engine_sessions.specs.NotEmpty.{left, Locks}

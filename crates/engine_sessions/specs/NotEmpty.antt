@@ -5,11 +5,11 @@ use mathlib.Core.Path.{_≡_}
 use lib.ListN.{length, getD}
 use Rattle.matcher.specs.Index.{Matcher}
 use Rattle.matcher_laws.specs.Words.{Every, F32}
-use Rattle.engine.specs.Opening.{opening, openedSettings, matcherOfFilm}
-use Rattle.engine.specs.Chain.{Answered, OnChain}
-use Rattle.engine.specs.Guarantee.{answersTo, remaining, AllHanded, Promised, unanswered}
-use Rattle.engine.specs.declared.types.State.the-variants as state
-use Rattle.engine.specs.declared.types.Answer.the-variants as answer
+use Rattle.engine_spec.specs.Opening.{opening, openedSettings, matcherOfFilm}
+use Rattle.engine_spec.specs.Chain.{Answered, OnChain}
+use Rattle.engine_spec.specs.Guarantee.{answersTo, remaining, AllHanded, Promised, unanswered}
+use Rattle.engine_spec.specs.declared.types.State.the-variants as state
+use Rattle.engine_spec.specs.declared.types.Answer.the-variants as answer
 use Rattle.engine_sessions.specs.Session.{Session, roomFor, engineOf, submissions}
 
 -- The remaining answers of a session.

@@ -7,21 +7,21 @@ use lib.ListN.{length, replicate}
 use lib.Ieee.{Float}
 use Rattle.numbers.specs.Arithmetic.{zero⁺}
 use Rattle.matcher_picks.specs.Peaks.{most}
-use Rattle.engine.specs.Windows.{Soundtrack, Index, Window, endpointOf}
-use Rattle.engine.specs.Refusals.{Submission}
-use Rattle.engine.specs.Opening.{blankCandidate, blankSnapshot, opening}
-use Rattle.engine.specs.Submitting.{submit, refused}
-use Rattle.engine.specs.Guarantee.{answersTo}
-use Rattle.engine.specs.Chain.{Answered}
-use Rattle.engine.specs.declared.types.Configuration.{Configuration}
-use Rattle.engine.specs.declared.types.Lock.{Lock}
-use Rattle.engine.specs.declared.types.CandidateDiagnostics.{CandidateDiagnostics}
-use Rattle.engine.specs.declared.types.Snapshot.{Snapshot}
-use Rattle.engine.specs.declared.types.Engine.{Engine}
-use Rattle.engine.specs.declared.types.Submitted.{Submitted}
-use Rattle.engine.specs.declared.types.Endpoint.the-variants as endpoint
-use Rattle.engine.specs.declared.types.Answer.{Answer}
-use Rattle.engine.specs.declared.types.Answer.the-variants as answer
+use Rattle.engine_spec.specs.Windows.{Soundtrack, Index, Window, endpointOf}
+use Rattle.engine_spec.specs.Refusals.{Submission}
+use Rattle.engine_spec.specs.Opening.{blankCandidate, blankSnapshot, opening}
+use Rattle.engine_spec.specs.Submitting.{submit, refused}
+use Rattle.engine_spec.specs.Guarantee.{answersTo}
+use Rattle.engine_spec.specs.Chain.{Answered}
+use Rattle.engine_spec.specs.declared.types.Configuration.{Configuration}
+use Rattle.engine_spec.specs.declared.types.Lock.{Lock}
+use Rattle.engine_spec.specs.declared.types.CandidateDiagnostics.{CandidateDiagnostics}
+use Rattle.engine_spec.specs.declared.types.Snapshot.{Snapshot}
+use Rattle.engine_spec.specs.declared.types.Engine.{Engine}
+use Rattle.engine_spec.specs.declared.types.Submitted.{Submitted}
+use Rattle.engine_spec.specs.declared.types.Endpoint.the-variants as endpoint
+use Rattle.engine_spec.specs.declared.types.Answer.{Answer}
+use Rattle.engine_spec.specs.declared.types.Answer.the-variants as answer
 
 -- ---- what is handed in
 -- Buffers as long as opening asks of them, full of zeros.

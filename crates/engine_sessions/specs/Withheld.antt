@@ -4,19 +4,19 @@ use mathlib.Core.Bool.{true, false}
 use mathlib.Core.List.{[], _∷_}
 use lib.IntN.{pos, negsuc}
 use lib.Ieee.{Float, fin, inf, nan}
-use Rattle.engine.specs.Windows.{Soundtrack, Index, Window}
-use Rattle.engine.specs.Opening.{openedIndex}
-use Rattle.engine.specs.declared.types.Configuration.{Configuration}
-use Rattle.engine.specs.declared.types.Snapshot.{Snapshot}
-use Rattle.engine.specs.declared.types.State.the-variants as state
-use Rattle.engine.specs.declared.types.LockPhase.the-variants as phase
-use Rattle.engine.specs.declared.types.Stage.the-variants as stage
-use Rattle.engine.specs.declared.types.WithholdReason.the-variants as reason
-use Rattle.engine.specs.declared.types.Estimate.the-variants as estimate
-use Rattle.engine.specs.declared.types.Maybe.the-variants as maybe
-use Rattle.engine.specs.declared.types.Milestone.the-variants as milestone
-use Rattle.engine.specs.declared.types.Hypothesis.the-variants as hypothesis
-use Rattle.engine.specs.declared.types.Answer.the-variants as answer
+use Rattle.engine_spec.specs.Windows.{Soundtrack, Index, Window}
+use Rattle.engine_spec.specs.Opening.{openedIndex}
+use Rattle.engine_spec.specs.declared.types.Configuration.{Configuration}
+use Rattle.engine_spec.specs.declared.types.Snapshot.{Snapshot}
+use Rattle.engine_spec.specs.declared.types.State.the-variants as state
+use Rattle.engine_spec.specs.declared.types.LockPhase.the-variants as phase
+use Rattle.engine_spec.specs.declared.types.Stage.the-variants as stage
+use Rattle.engine_spec.specs.declared.types.WithholdReason.the-variants as reason
+use Rattle.engine_spec.specs.declared.types.Estimate.the-variants as estimate
+use Rattle.engine_spec.specs.declared.types.Maybe.the-variants as maybe
+use Rattle.engine_spec.specs.declared.types.Milestone.the-variants as milestone
+use Rattle.engine_spec.specs.declared.types.Hypothesis.the-variants as hypothesis
+use Rattle.engine_spec.specs.declared.types.Answer.the-variants as answer
 use Rattle.engine_sessions.specs.Session.{Session, Turn, roomFor, noIndex, heard, heardWithoutWork, eight, refusal, again, answered}
 
 abbrev pub configuration : Configuration

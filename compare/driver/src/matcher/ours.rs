@@ -1,4 +1,4 @@
-//! The matcher of the port, as crates/exports hands it out.
+//! The matcher of the port, as crates/compare_exports hands it out.
 
 use super::case::{Candidate, Frames};
 

@@ -1,4 +1,4 @@
-//! The number functions of the port, as crates/exports hands them out.
+//! The number functions of the port, as crates/compare_exports hands them out.
 
 macro_rules! exported {
     ($($name:ident = $symbol:ident($from:ty) -> $to:ty;)*) => {

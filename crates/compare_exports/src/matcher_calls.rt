@@ -1,0 +1,282 @@
+// The matcher, for Rust to call. Sizes that do not fit are answered by `UNFIT`, and then nothing is
+// written.
+ghost use Prim.Native.Nat.{_≤_};
+ghost use lib.ListN.{drop, length};
+ghost use mathlib.Core.List.{_++_};
+ghost use mathlib.Core.Path.{_≡_};
+ghost use Rattle.compare_exports.specs.MatcherCalls.{buffers, counted, fillAnswer, filledBuffers, fitsBands, fitsFillLengths, fitsLimits, fitsLocal, fitsLocalLengths, fitsWhole, fitsWindow, foundIn, foundNear, numbersOf, referenceOf, written};
+ghost use Rattle.matcher.specs.Search.{windowOf};
+use matcher::index::Reference;
+use matcher::index::fill_index;
+use matcher::search::local_search;
+use matcher::search::whole_search;
+use matcher_picks::candidates::MatchResult;
+
+// The answer where a slice is too short or a number is out of its range.
+const UNFIT: usize = 255;
+
+// How many numbers the candidates of a result have.
+const NUMBERS: usize = 40;
+
+// Whether a reference is within document 01's limits.
+fn fits_limits(bands: usize, frames: usize, hop: f64) -> bool
+    ensures { λ r. ⌜ r ≡ fitsLimits bands frames hop ⌝ }
+{
+    (bands > 0) & ((bands <= 64) & ((frames <= 65535) & ((hop >= 1.0) & (hop <= 1000.0))))
+}
+
+// Whether slices of these lengths hold n values a band, and their energies.
+fn fits_bands(bands: usize, n: usize, values: usize, squares: usize) -> bool
+    requires { ⌜ bands ≤ 64 ⌝ ∗ ⌜ n ≤ 65535 ⌝ }
+    ensures { λ r. ⌜ r ≡ fitsBands bands n values squares ⌝ }
+{
+    (bands * n <= values) & (bands * (n + 1) <= squares)
+}
+
+// Whether the lengths of a window's slices and of the working buffers are enough.
+fn fits_window(
+    frames: usize,
+    bands: usize,
+    times: usize,
+    values: usize,
+    work32: usize,
+    work64: usize,
+) -> bool
+    requires { ⌜ frames ≤ 65535 ⌝ }
+    ensures { λ r. ⌜ r ≡ fitsWindow frames bands times values work32 work64 ⌝ }
+{
+    if bands > 64 {
+        return false;
+    }
+    if times > 1024 {
+        return false;
+    }
+    (values == bands * times)
+        & ((2 * (bands * times) <= work32) & (3 * (bands * (times + 1)) + frames <= work64))
+}
+
+// Whether the index can be filled.
+fn fits_fill(
+    hop: f64,
+    bands: usize,
+    times: usize,
+    values: usize,
+    fine: usize,
+    coarse: usize,
+    fine_squares: usize,
+    coarse_squares: usize,
+) -> bool
+    ensures { λ r. ⌜ r ≡ fitsFillLengths hop bands times values fine coarse «fine_squares» «coarse_squares» ⌝ }
+{
+    if !fits_limits(bands, times, hop) {
+        return false;
+    }
+    (values == bands * times)
+        & (fits_bands(bands, times, fine, fine_squares)
+            & fits_bands(bands, times / 4, coarse, coarse_squares))
+}
+
+// Fills the index and answers 1, or answers 0 where the reference is rejected.
+#[no_mangle]
+pub extern "C" fn matcher_fill_index(
+    fine: &mut [f32],
+    coarse: &mut [f32],
+    fine_squares: &mut [f64],
+    coarse_squares: &mut [f64],
+    bands: usize,
+    hop: f64,
+    times: &[f64],
+    values: &[f32],
+) -> usize
+    ensures { λ r. ⌜ r ≡ fillAnswer hop bands (now (times .entry)) (now (values .entry)) (buffers (now (fine .entry)) (now (coarse .entry)) (now («fine_squares» .entry)) (now («coarse_squares» .entry))) ⌝ }
+    ensures { λ _. ⌜ now (fine .exit) ≡ filledBuffers hop bands (now (times .entry)) (now (values .entry)) (buffers (now (fine .entry)) (now (coarse .entry)) (now («fine_squares» .entry)) (now («coarse_squares» .entry))) .fine ⌝ }
+    ensures { λ _. ⌜ now (coarse .exit) ≡ filledBuffers hop bands (now (times .entry)) (now (values .entry)) (buffers (now (fine .entry)) (now (coarse .entry)) (now («fine_squares» .entry)) (now («coarse_squares» .entry))) .coarse ⌝ }
+    ensures { λ _. ⌜ now («fine_squares» .exit) ≡ filledBuffers hop bands (now (times .entry)) (now (values .entry)) (buffers (now (fine .entry)) (now (coarse .entry)) (now («fine_squares» .entry)) (now («coarse_squares» .entry))) .fineSquares ⌝ }
+    ensures { λ _. ⌜ now («coarse_squares» .exit) ≡ filledBuffers hop bands (now (times .entry)) (now (values .entry)) (buffers (now (fine .entry)) (now (coarse .entry)) (now («fine_squares» .entry)) (now («coarse_squares» .entry))) .coarseSquares ⌝ }
+{
+    if !fits_fill(
+        hop,
+        bands,
+        times.len(),
+        values.len(),
+        fine.len(),
+        coarse.len(),
+        fine_squares.len(),
+        coarse_squares.len(),
+    ) {
+        return UNFIT;
+    }
+    if fill_index(
+        fine,
+        coarse,
+        fine_squares,
+        coarse_squares,
+        bands,
+        hop,
+        times,
+        values,
+    ) {
+        return 1;
+    }
+    0
+}
+
+// Writes the numbers of the eight candidates, five each.
+fn write_candidates(out: &mut [f64], result: MatchResult)
+    requires { ⌜ 40 ≤ length (now out) ⌝ }
+    ensures { λ _. ⌜ now (out .exit) ≡ numbersOf (result .candidates) ++ drop 40 (now (out .entry)) ⌝ }
+{
+    let candidates = result.candidates;
+    let mut i = 0usize;
+    while i < 8 {
+        let c = candidates[i];
+        let at = i * 5;
+        out[at] = c.offset_ms;
+        out[at + 1] = c.score;
+        out[at + 2] = c.first_half_score;
+        out[at + 3] = c.second_half_score;
+        out[at + 4] = c.recent_score;
+        i += 1;
+    }
+}
+
+// Whether a local search fits.
+fn fits_local(
+    reference: Reference,
+    fine: usize,
+    squares: usize,
+    bands: usize,
+    times: usize,
+    values: usize,
+    work32: usize,
+    work64: usize,
+    out: usize,
+) -> bool
+    ensures { λ r. ⌜ r ≡ fitsLocalLengths reference fine squares bands times values work32 work64 out ⌝ }
+{
+    if !fits_limits(reference.bands, reference.frames, reference.hop_ms) {
+        return false;
+    }
+    fits_window(reference.frames, bands, times, values, work32, work64)
+        & (fits_bands(reference.bands, reference.frames, fine, squares) & (NUMBERS <= out))
+}
+
+// The candidates of the whole reference: their number is the answer.
+#[no_mangle]
+pub extern "C" fn matcher_whole_search(
+    fine: &[f32],
+    coarse: &[f32],
+    fine_squares: &[f64],
+    coarse_squares: &[f64],
+    reference_bands: usize,
+    frames: usize,
+    start: f64,
+    hop: f64,
+    bands: usize,
+    times: &[f64],
+    values: &[f32],
+    work32: &mut [f32],
+    work64: &mut [f64],
+    out: &mut [f64],
+) -> usize
+    ensures { λ r. ⌜ r ≡ counted (fitsWhole (referenceOf «reference_bands» frames start hop) (buffers (now (fine .entry)) (now (coarse .entry)) (now («fine_squares» .entry)) (now («coarse_squares» .entry))) (windowOf bands (now (times .entry)) (now (values .entry))) (length (now (work32 .entry))) (length (now (work64 .entry))) (length (now (out .entry)))) (foundIn (referenceOf «reference_bands» frames start hop) (buffers (now (fine .entry)) (now (coarse .entry)) (now («fine_squares» .entry)) (now («coarse_squares» .entry))) (windowOf bands (now (times .entry)) (now (values .entry)))) ⌝ }
+    ensures { λ _. ⌜ now (out .exit) ≡ written (fitsWhole (referenceOf «reference_bands» frames start hop) (buffers (now (fine .entry)) (now (coarse .entry)) (now («fine_squares» .entry)) (now («coarse_squares» .entry))) (windowOf bands (now (times .entry)) (now (values .entry))) (length (now (work32 .entry))) (length (now (work64 .entry))) (length (now (out .entry)))) (foundIn (referenceOf «reference_bands» frames start hop) (buffers (now (fine .entry)) (now (coarse .entry)) (now («fine_squares» .entry)) (now («coarse_squares» .entry))) (windowOf bands (now (times .entry)) (now (values .entry)))) (now (out .entry)) ⌝ }
+{
+    let reference = Reference {
+        bands: reference_bands,
+        frames,
+        start_ms: start,
+        hop_ms: hop,
+    };
+    if !fits_local(
+        reference,
+        fine.len(),
+        fine_squares.len(),
+        bands,
+        times.len(),
+        values.len(),
+        work32.len(),
+        work64.len(),
+        out.len(),
+    ) {
+        return UNFIT;
+    }
+    if !fits_bands(
+        reference_bands,
+        frames / 4,
+        coarse.len(),
+        coarse_squares.len(),
+    ) {
+        return UNFIT;
+    }
+    let found = whole_search(
+        fine,
+        coarse,
+        fine_squares,
+        coarse_squares,
+        reference,
+        bands,
+        times,
+        values,
+        work32,
+        work64,
+    );
+    write_candidates(out, found);
+    found.count
+}
+
+// The best candidate of an offset range: 1 or 0 is the answer.
+#[no_mangle]
+pub extern "C" fn matcher_local_search(
+    fine: &[f32],
+    squares: &[f64],
+    reference_bands: usize,
+    frames: usize,
+    start: f64,
+    hop: f64,
+    bands: usize,
+    times: &[f64],
+    values: &[f32],
+    lower: f64,
+    upper: f64,
+    work32: &mut [f32],
+    work64: &mut [f64],
+    out: &mut [f64],
+) -> usize
+    ensures { λ r. ⌜ r ≡ counted (fitsLocal (referenceOf «reference_bands» frames start hop) (now (fine .entry)) (now (squares .entry)) (windowOf bands (now (times .entry)) (now (values .entry))) (length (now (work32 .entry))) (length (now (work64 .entry))) (length (now (out .entry)))) (foundNear (referenceOf «reference_bands» frames start hop) (now (fine .entry)) (now (squares .entry)) (windowOf bands (now (times .entry)) (now (values .entry))) lower upper) ⌝ }
+    ensures { λ _. ⌜ now (out .exit) ≡ written (fitsLocal (referenceOf «reference_bands» frames start hop) (now (fine .entry)) (now (squares .entry)) (windowOf bands (now (times .entry)) (now (values .entry))) (length (now (work32 .entry))) (length (now (work64 .entry))) (length (now (out .entry)))) (foundNear (referenceOf «reference_bands» frames start hop) (now (fine .entry)) (now (squares .entry)) (windowOf bands (now (times .entry)) (now (values .entry))) lower upper) (now (out .entry)) ⌝ }
+{
+    let reference = Reference {
+        bands: reference_bands,
+        frames,
+        start_ms: start,
+        hop_ms: hop,
+    };
+    if !fits_local(
+        reference,
+        fine.len(),
+        squares.len(),
+        bands,
+        times.len(),
+        values.len(),
+        work32.len(),
+        work64.len(),
+        out.len(),
+    ) {
+        return UNFIT;
+    }
+    let found = local_search(
+        fine,
+        squares,
+        reference,
+        bands,
+        times,
+        values,
+        lower,
+        upper,
+        work32,
+        work64,
+    );
+    write_candidates(out, found);
+    found.count
+}

@@ -1,0 +1,60 @@
+-- put
+use mathlib.Core.List.{[]}
+use native.Mathlib.Nat.{le-of-eq}
+use mathlib.Core.Bool.{Bool, true, false, true≢false}
+use mathlib.Core.Path.{_≡_, refl, sym, ap, _∙_}
+use borrow.Author.Needs.{needs}
+use borrow.Author.Tests.{not-true, not-false, eq-eqb, ne-eqb}
+use lib.Ieee.{Float, ofBits, div, neg}
+use lib.ListN.{length}
+use Rattle.engine_spec.specs.Windows.{jumpsFrom, rereadsFrom, matcherIn}
+use Rattle.engine_spec.specs.Refusals.{refuses, Submission}
+use Rattle.engine_spec.specs.Opening.{blankSnapshot, freshEngine, noEngine}
+use Rattle.engine_spec.specs.Publishing as publishing
+use Rattle.engine_spec.specs.Publishing.{decide}
+use Rattle.engine_spec.specs.Locking as locking
+use Rattle.engine_spec.specs.Submitting.{stamp, reread, computedFrom, decisionOn, lockFrom, reachedBy, submit}
+use Rattle.engine_spec.specs.SupportAge.{isLocked, supportAge}
+use Rattle.engine_spec.specs.declared.types.Lock.{Lock}
+use Rattle.engine_spec.specs.declared.types.Submitted.{Submitted}
+use Rattle.engine_spec.specs.Lent.{lent, window, handed}
+use Rattle.engine_lock.specs.Views.{reachedIn}
+use Rattle.engine_snapshot.specs.Decided.{decisionIn}
+use Rattle.engine.proofs.RoomLaw.{room}
+use Rattle.engine.proofs.AnswerLaws.{not-not-is, computed-is, submit-refused, submit-answered, answered-unrefused, answers-again, answers-computed}
+-- end
+use borrow.Author.Needs.{needs}
+use Rattle.engine.proofs.answers.is_reread.Statement.{statement}
+use Rattle.engine.proofs.answers.is_reread.Tie as tie
+use Rattle.engine.proofs.answers.is_reread.Reads as reads
+use Rattle.engine.proofs.answers.is_reread.Lts as lts
+use Rattle.engine.proofs.answers.rereads_from.Reads as rereads-from-reads
+
+-- src/answers.rt:129:9
+returns : tie.Need-returns
+returns c = simp (not-true (c .before .before .before .before .before .args .last .«has_snapshot») (c .if1 .taken))
+
+-- src/answers.rt:132:29
+enum-told : tie.Need-enum-told
+enum-told c = search needs
+
+-- src/answers.rt:133:22
+enum-known-endpoint : tie.Need-enum-known-endpoint
+enum-known-endpoint c = search needs
+
+-- src/answers.rt:133:28
+rereads-from-requires : tie.Need-rereads-from-requires
+rereads-from-requires c κs = search needs
+
+-- src/answers.rt:123:1
+returns-2 : tie.Need-returns-2
+returns-2 c = simp (not-false (c .before .before .before .before .before .before .before .args .last .«has_snapshot») (c .before .before .if1 .left), c .enum-told .given .1)
+
+-- src/answers.rt:123:1
+returns-3 : tie.Need-returns-3
+returns-3 c = simp (not-false (c .before .before .before .before .before .before .before .before .before .args .last .«has_snapshot») (c .before .before .before .before .if1 .left), c .before .before .endpoint .given .1, ← (c .rereads-from .ensures))
+
+pub is-reread-spec : {M : Type 1} → statement M
+is-reread-spec =
+    tie.close
+    (tie.spec returns enum-told enum-known-endpoint rereads-from-requires returns-2 returns-3)

@@ -1,0 +1,51 @@
+-- put
+use mathlib.Core.List.{[]}
+use native.Mathlib.Nat.{le-of-eq}
+use mathlib.Core.Bool.{Bool, true, false, true≢false}
+use mathlib.Core.Path.{_≡_, refl, sym, ap, _∙_}
+use borrow.Author.Needs.{needs}
+use borrow.Author.Tests.{not-true, not-false, eq-eqb, ne-eqb}
+use lib.Ieee.{Float, ofBits, div, neg}
+use lib.ListN.{length}
+use Rattle.engine_spec.specs.Windows.{jumpsFrom, rereadsFrom, matcherIn}
+use Rattle.engine_spec.specs.Refusals.{refuses, Submission}
+use Rattle.engine_spec.specs.Opening.{blankSnapshot, freshEngine, noEngine}
+use Rattle.engine_spec.specs.Publishing as publishing
+use Rattle.engine_spec.specs.Publishing.{decide}
+use Rattle.engine_spec.specs.Locking as locking
+use Rattle.engine_spec.specs.Submitting.{stamp, reread, computedFrom, decisionOn, lockFrom, reachedBy, submit}
+use Rattle.engine_spec.specs.SupportAge.{isLocked, supportAge}
+use Rattle.engine_spec.specs.declared.types.Lock.{Lock}
+use Rattle.engine_spec.specs.declared.types.Submitted.{Submitted}
+use Rattle.engine_spec.specs.Lent.{lent, window, handed}
+use Rattle.engine_lock.specs.Views.{reachedIn}
+use Rattle.engine_snapshot.specs.Decided.{decisionIn}
+use Rattle.engine.proofs.RoomLaw.{room}
+use Rattle.engine.proofs.AnswerLaws.{not-not-is, computed-is, submit-refused, submit-answered, answered-unrefused, answers-again, answers-computed}
+-- end
+use borrow.Author.Needs.{needs}
+use Rattle.engine.proofs.answers.reached_by.Statement.{statement}
+use Rattle.engine.proofs.answers.reached_by.Tie as tie
+use Rattle.engine.proofs.answers.reached_by.Reads as reads
+use Rattle.engine.proofs.answers.reached_by.Lts as lts
+use Rattle.engine.proofs.answers.is_there.Reads as is-there-reads
+
+-- src/answers.rt:49:9
+is-there-requires : tie.Need-is-there-requires
+is-there-requires c κs = search needs
+
+-- src/answers.rt:50:9
+is-there-requires-2 : tie.Need-is-there-requires-2
+is-there-requires-2 c κs = search needs
+
+-- src/answers.rt:51:9
+is-there-requires-3 : tie.Need-is-there-requires-3
+is-there-requires-3 c κs = search needs
+
+-- src/answers.rt:43:1
+returns : tie.Need-returns
+returns c = simp (← (c .before .before .is-there .ensures), ← (c .before .is-there2 .ensures), ← (c .is-there3 .ensures))
+
+pub reached-by-spec : {M : Type 1} → statement M
+reached-by-spec =
+    tie.close (tie.spec is-there-requires is-there-requires-2 is-there-requires-3 returns)

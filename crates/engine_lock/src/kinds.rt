@@ -1,0 +1,27 @@
+// What the lock rules hand on.
+use engine_spec::types::Hypothesis;
+use engine_spec::types::Lock;
+use engine_spec::types::Maybe;
+use matcher_picks::candidates::MatchResult;
+
+pub struct Reached {
+    pub provisional: bool,
+    pub confirmed: bool,
+    pub final_lock: bool,
+}
+
+pub struct Tracked {
+    pub accepted: Hypothesis,
+    pub supported: bool,
+    pub innovation: Maybe,
+    pub found: MatchResult,
+}
+
+pub struct Searched {
+    pub lock: Lock,
+    pub reached: Reached,
+    pub global: bool,
+    pub found: MatchResult,
+    pub supported: bool,
+    pub innovation: Maybe,
+}

@@ -1,0 +1,302 @@
+// The lock rules: pending, the end of a chain, and which milestones are there.
+ghost use Prim.Native.Nat.{_<_, _≤_};
+ghost use mathlib.Core.List.{_∷_};
+ghost use mathlib.Core.Path.{_≡_};
+ghost use lib.ListN.{drop};
+ghost use Rattle.matcher_picks.specs.Candidates.{listed};
+ghost use Rattle.engine_spec.specs.Locking.{afterChain, afterPassing, confirms, current, firstEvidence, heldOrDropped, holds, keptOrReplaced, least, locallySearched, notPassed, passed, passing, wholeDue, wholeSearched};
+ghost use Rattle.engine_lock.specs.Views.{endingAt, reachedIn, searchedIn, trackedIn};
+use crate::kinds::Reached;
+use crate::kinds::Searched;
+use crate::kinds::Tracked;
+use crate::track::best_of;
+use crate::track::evidence;
+use crate::track::is_same_place;
+use engine_spec::types::Hypothesis;
+use engine_spec::types::Lock;
+use engine_spec::types::RecordedMs;
+use matcher_picks::candidates::Candidate;
+use matcher_picks::candidates::MatchResult;
+use matcher_picks::candidates::margin;
+use numbers::float::abs;
+use numbers::float::at_most;
+
+pub fn is_whole_due(supported: bool, now: RecordedMs, last: RecordedMs) -> bool
+    ensures { λ r. ⌜ r ≡ wholeDue supported now last ⌝ }
+{
+    if supported {
+        return now.0 - last.0 >= 2000.0;
+    }
+    now.0 - last.0 >= 500.0
+}
+
+// `x.min(y)`: a NaN beside a number is passed over.
+fn least(x: f64, y: f64) -> f64
+    ensures { λ r. ⌜ r ≡ least x y ⌝ }
+{
+    if y == y { at_most(y, x) } else { x }
+}
+
+pub fn is_passing(found: MatchResult) -> bool
+    requires { ⌜ found .count ≤ 8 ⌝ }
+    ensures { λ r. ⌜ r ≡ passing (listed found) ⌝ }
+{
+    if found.count == 0 {
+        return false;
+    }
+    let best = best_of(found);
+    (best.score >= 0.25)
+        & ((margin(found) >= 0.06)
+            & (least(best.first_half_score, best.second_half_score) >= 0.1))
+}
+
+fn is_current(now: RecordedMs, last: RecordedMs) -> bool
+    ensures { λ r. ⌜ r ≡ current now last ⌝ }
+{
+    now.0 - last.0 <= 2500.0
+}
+
+fn first_evidence(pending: Hypothesis, offset: f64, now: RecordedMs) -> RecordedMs
+    ensures { λ r. ⌜ r ≡ firstEvidence pending offset now ⌝ }
+{
+    match pending {
+        Hypothesis::Absent => now,
+        Hypothesis::Held {
+            offset_ms,
+            first_evidence_ms,
+            last_evidence_ms,
+            correlation: _,
+        } => {
+            if is_same_place(offset_ms, offset) & is_current(now, last_evidence_ms) {
+                first_evidence_ms
+            } else {
+                now
+            }
+        }
+    }
+}
+
+fn holds(offset: f64, last: RecordedMs, found: MatchResult, now: RecordedMs) -> bool
+    requires { ⌜ found .count ≤ 8 ⌝ }
+    ensures { λ r. ⌜ r ≡ holds offset last (listed found) now ⌝ }
+{
+    if found.count == 0 {
+        return false;
+    }
+    let best = best_of(found);
+    is_same_place(best.offset_ms, offset) & ((margin(found) >= 0.06) & is_current(now, last))
+}
+
+fn held_or_dropped(pending: Hypothesis, found: MatchResult, now: RecordedMs) -> Hypothesis
+    requires { ⌜ found .count ≤ 8 ⌝ }
+    ensures { λ r. ⌜ r ≡ heldOrDropped pending (listed found) now ⌝ }
+{
+    match pending {
+        Hypothesis::Absent => Hypothesis::Absent,
+        Hypothesis::Held {
+            offset_ms,
+            first_evidence_ms: _,
+            last_evidence_ms,
+            correlation: _,
+        } => {
+            if holds(offset_ms, last_evidence_ms, found, now) {
+                pending
+            } else {
+                Hypothesis::Absent
+            }
+        }
+    }
+}
+
+fn confirms(hop: f64, first: RecordedMs, now: RecordedMs, best: Candidate) -> bool
+    ensures { λ r. ⌜ r ≡ confirms hop first now best ⌝ }
+{
+    (now.0 - first.0 >= 1000.0 - hop) & (best.recent_score >= 0.15)
+}
+
+fn kept_or_replaced(
+    accepted: Hypothesis,
+    supported: bool,
+    best: Candidate,
+    now: RecordedMs,
+) -> Hypothesis
+    ensures { λ r. ⌜ r ≡ keptOrReplaced accepted supported best now ⌝ }
+{
+    let begun = Hypothesis::Held {
+        offset_ms: best.offset_ms,
+        first_evidence_ms: now,
+        last_evidence_ms: now,
+        correlation: best.score,
+    };
+    match accepted {
+        Hypothesis::Absent => begun,
+        Hypothesis::Held {
+            offset_ms,
+            first_evidence_ms: _,
+            last_evidence_ms: _,
+            correlation: _,
+        } => {
+            if (abs(offset_ms - best.offset_ms) > 80.0) | !supported {
+                begun
+            } else {
+                accepted
+            }
+        }
+    }
+}
+
+fn after_passing(k: Reached) -> Reached
+    ensures { λ r. ⌜ reachedIn r ≡ afterPassing (reachedIn k) ⌝ }
+{
+    Reached {
+        provisional: true,
+        confirmed: k.confirmed,
+        final_lock: k.final_lock,
+    }
+}
+
+// Where final is there, confirmed stays what it was.
+fn after_chain(k: Reached) -> Reached
+    ensures { λ r. ⌜ reachedIn r ≡ afterChain (reachedIn k) ⌝ }
+{
+    Reached {
+        provisional: true,
+        confirmed: !k.final_lock | k.confirmed,
+        final_lock: true,
+    }
+}
+
+// After a whole search that passed.
+fn passed(
+    hop: f64,
+    endpoint: RecordedMs,
+    reached: Reached,
+    first: RecordedMs,
+    t: Tracked,
+    best: Candidate,
+    found: MatchResult,
+) -> Searched
+    requires { ⌜ listed found ≡ best ∷ drop 1 (listed found) ⌝ }
+    ensures { λ r. ⌜ searchedIn r ≡ passed hop (endingAt endpoint) (reachedIn reached) first (trackedIn t) best (drop 1 (listed found)) ⌝ }
+    ensures { λ r. ⌜ r .found ≡ found ⌝ }
+{
+    let now = evidence(hop, endpoint);
+    let innovation = t.innovation;
+    let accepted = t.accepted;
+    let pending = Hypothesis::Held {
+        offset_ms: best.offset_ms,
+        first_evidence_ms: first,
+        last_evidence_ms: now,
+        correlation: best.score,
+    };
+    if confirms(hop, first, now, best) {
+        let track = kept_or_replaced(accepted, t.supported, best, now);
+        let lock = Lock {
+            pending,
+            accepted: track,
+            last_global_search_ms: endpoint,
+        };
+        let after = after_chain(reached);
+        return Searched {
+            lock,
+            reached: after,
+            global: true,
+            found,
+            supported: true,
+            innovation,
+        };
+    }
+    let lock = Lock {
+        pending,
+        accepted,
+        last_global_search_ms: endpoint,
+    };
+    let after = after_passing(reached);
+    Searched {
+        lock,
+        reached: after,
+        global: true,
+        found,
+        supported: t.supported,
+        innovation,
+    }
+}
+
+// After one that did not.
+fn not_passed(
+    hop: f64,
+    endpoint: RecordedMs,
+    reached: Reached,
+    pending: Hypothesis,
+    t: Tracked,
+    found: MatchResult,
+) -> Searched
+    requires { ⌜ found .count ≤ 8 ⌝ }
+    ensures { λ r. ⌜ searchedIn r ≡ notPassed hop (endingAt endpoint) (reachedIn reached) pending (trackedIn t) (listed found) ⌝ }
+    ensures { λ r. ⌜ r .found ≡ found ⌝ }
+{
+    let now = evidence(hop, endpoint);
+    let held = held_or_dropped(pending, found, now);
+    let accepted = t.accepted;
+    let innovation = t.innovation;
+    let lock = Lock {
+        pending: held,
+        accepted,
+        last_global_search_ms: endpoint,
+    };
+    Searched {
+        lock,
+        reached,
+        global: true,
+        found,
+        supported: t.supported,
+        innovation,
+    }
+}
+
+// After a whole search that found these.
+pub fn whole_searched(
+    hop: f64,
+    endpoint: RecordedMs,
+    reached: Reached,
+    pending: Hypothesis,
+    t: Tracked,
+    found: MatchResult,
+) -> Searched
+    requires { ⌜ found .count ≤ 8 ⌝ }
+    ensures { λ r. ⌜ searchedIn r ≡ wholeSearched hop (endingAt endpoint) (reachedIn reached) pending (trackedIn t) (listed found) ⌝ }
+    ensures { λ r. ⌜ r .found ≡ found ⌝ }
+{
+    if !is_passing(found) {
+        return not_passed(hop, endpoint, reached, pending, t, found);
+    }
+    let best = best_of(found);
+    let now = evidence(hop, endpoint);
+    let first = first_evidence(pending, best.offset_ms, now);
+    passed(hop, endpoint, reached, first, t, best, found)
+}
+
+// Without a whole search.
+pub fn locally_searched(reached: Reached, lock: Lock, t: Tracked) -> Searched
+    ensures { λ r. ⌜ searchedIn r ≡ locallySearched (reachedIn reached) lock (trackedIn t) ⌝ }
+    ensures { λ r. ⌜ r .found ≡ t .found ⌝ }
+{
+    let pending = lock.pending;
+    let accepted = t.accepted;
+    let innovation = t.innovation;
+    let found = t.found;
+    let last_global_search_ms = lock.last_global_search_ms;
+    let kept = Lock {
+        pending,
+        accepted,
+        last_global_search_ms,
+    };
+    Searched {
+        lock: kept,
+        reached,
+        global: false,
+        found,
+        supported: t.supported,
+        innovation,
+    }
+}

@@ -1,0 +1,119 @@
+// The track and what a local search does to it.
+ghost use Prim.Native.Nat.{_<_, _≤_};
+ghost use mathlib.Core.List.{_∷_};
+ghost use mathlib.Core.Path.{_≡_};
+ghost use lib.ListN.{drop};
+ghost use Rattle.matcher_picks.specs.Candidates.{listed};
+ghost use Rattle.engine_spec.specs.Windows.{evidence};
+ghost use Rattle.engine_spec.specs.Tracking.{followed, gain, mayCoast, movedOffset, samePlace, supports, unsupported};
+ghost use Rattle.engine_lock.specs.Views.{endingAt, trackedIn};
+use crate::kinds::Tracked;
+use engine_spec::types::Hypothesis;
+use engine_spec::types::Maybe;
+use engine_spec::types::RecordedMs;
+use matcher_bands::centring::context_frames;
+use matcher_picks::candidates::Candidate;
+use matcher_picks::candidates::MatchResult;
+use numbers::exponential::exp;
+use numbers::float::abs;
+use numbers::float::at_least;
+
+// Evidence time: the endpoint less the frames that centring trims.
+pub fn evidence(hop: f64, endpoint: RecordedMs) -> RecordedMs
+    ensures { λ r. ⌜ r ≡ evidence hop (endingAt endpoint) ⌝ }
+{
+    RecordedMs(endpoint.0 - context_frames(hop) * hop)
+}
+
+pub fn is_same_place(a: f64, b: f64) -> bool
+    ensures { λ r. ⌜ r ≡ samePlace a b ⌝ }
+{
+    abs(a - b) <= 80.0
+}
+
+pub fn may_coast(now: RecordedMs, last: RecordedMs) -> bool
+    ensures { λ r. ⌜ r ≡ mayCoast now last ⌝ }
+{
+    now.0 - last.0 <= 1500.0
+}
+
+fn supports(offset: f64, best: Candidate) -> bool
+    ensures { λ r. ⌜ r ≡ supports offset best ⌝ }
+{
+    (best.score >= 0.15) & ((best.recent_score >= 0.12) & is_same_place(best.offset_ms, offset))
+}
+
+fn gain(dt: f64) -> f64
+    ensures { λ r. ⌜ r ≡ gain dt ⌝ }
+{
+    1.0 - exp(-dt / 300.0)
+}
+
+fn moved_offset(offset: f64, best: Candidate, dt: f64) -> f64
+    ensures { λ r. ⌜ r ≡ movedOffset offset best dt ⌝ }
+{
+    offset + gain(dt) * (best.offset_ms - offset)
+}
+
+// The best candidate of a result that has one.
+pub fn best_of(found: MatchResult) -> Candidate
+    requires { ⌜ 0 < found .count ⌝ ∗ ⌜ found .count ≤ 8 ⌝ }
+    ensures { λ r. ⌜ listed found ≡ r ∷ drop 1 (listed found) ⌝ }
+{
+    let candidates = found.candidates;
+    candidates[0]
+}
+
+pub fn unsupported(track: Hypothesis, found: MatchResult) -> Tracked
+    ensures { λ r. ⌜ trackedIn r ≡ unsupported track (listed found) ⌝ }
+    ensures { λ r. ⌜ r .found ≡ found ⌝ }
+{
+    Tracked {
+        accepted: track,
+        supported: false,
+        innovation: Maybe::Absent,
+        found,
+    }
+}
+
+// The track after the best of what a local search found.
+pub fn followed(
+    offset: f64,
+    first: RecordedMs,
+    last: RecordedMs,
+    correlation: f64,
+    now: RecordedMs,
+    found: MatchResult,
+) -> Tracked
+    requires { ⌜ found .count ≤ 8 ⌝ }
+    ensures { λ r. ⌜ trackedIn r ≡ followed offset first last correlation now (listed found) ⌝ }
+    ensures { λ r. ⌜ r .found ≡ found ⌝ }
+{
+    let track = Hypothesis::Held {
+        offset_ms: offset,
+        first_evidence_ms: first,
+        last_evidence_ms: last,
+        correlation,
+    };
+    if found.count == 0 {
+        return unsupported(track, found);
+    }
+    let best = best_of(found);
+    if !supports(offset, best) {
+        return unsupported(track, found);
+    }
+    let dt = at_least(0.0, now.0 - last.0);
+    let to = moved_offset(offset, best, dt);
+    let moved = Hypothesis::Held {
+        offset_ms: to,
+        first_evidence_ms: first,
+        last_evidence_ms: now,
+        correlation: best.score,
+    };
+    Tracked {
+        accepted: moved,
+        supported: true,
+        innovation: Maybe::Is(best.offset_ms - offset),
+        found,
+    }
+}

@@ -1,0 +1,201 @@
+// The order of refusals.
+ghost use Prim.Native.Nat.{_≤_};
+ghost use lib.ListN.{length};
+ghost use mathlib.Core.Path.{_≡_};
+ghost use Rattle.engine_spec.specs.Refusals.{handedRefusal, indexFits, openingRefusal, refuses, submissionRefusal, validWindow, workFits};
+ghost use Rattle.engine_spec.specs.Lent.{film, handed, lent, window};
+use crate::ranges::are_near;
+use crate::ranges::are_near_or_not_finite;
+use crate::ranges::are_valid_energies;
+use crate::ranges::is_hop;
+use crate::states::are_counts;
+use crate::states::is_valid_configuration;
+use crate::states::is_valid_engine;
+use engine_spec::types::Answer;
+use engine_spec::types::ClockMs;
+use engine_spec::types::Configuration;
+use engine_spec::types::Engine;
+use engine_spec::types::Settings;
+use matcher_bands::timeline::are_valid;
+use numbers::float::is_finite;
+
+pub fn is_refusal(a: Answer) -> bool
+    ensures { λ r. ⌜ r ≡ refuses a ⌝ }
+{
+    match a {
+        Answer::Opened => false,
+        Answer::Computed => false,
+        Answer::Reread => false,
+        Answer::InvalidConfiguration => true,
+        Answer::HopOutOfRange => true,
+        Answer::ReferenceTooLarge => true,
+        Answer::ReferenceMiscounted => true,
+        Answer::ReferenceTimeTooFar => true,
+        Answer::IndexTooShort => true,
+        Answer::StateOutOfRange => true,
+        Answer::ClockNotFinite => true,
+        Answer::NoFrames => true,
+        Answer::WindowTooLarge => true,
+        Answer::WindowInvalid => true,
+        Answer::WindowTimeOutOfRange => true,
+        Answer::WorkTooShort => true,
+    }
+}
+
+fn index_fits(
+    frames: usize,
+    bands: usize,
+    fine: &[f32],
+    coarse: &[f32],
+    fine_squares: &[f64],
+    coarse_squares: &[f64],
+) -> bool
+    requires { ⌜ frames ≤ 65535 ⌝ ∗ ⌜ bands ≤ 65535 ⌝ }
+    ensures { λ r. ⌜ r ≡ indexFits frames bands (lent (now (fine .entry)) (now (coarse .entry)) (now («fine_squares» .entry)) (now («coarse_squares» .entry))) ⌝ }
+{
+    (bands * frames <= fine.len())
+        & ((bands * (frames / 4) <= coarse.len())
+            & ((bands * (frames + 1) <= fine_squares.len())
+                & (bands * (frames / 4 + 1) <= coarse_squares.len())))
+}
+
+pub fn opening_refusal(
+    configuration: Configuration,
+    hop: f64,
+    bands: usize,
+    times: &[f64],
+    values: &[f32],
+    fine: &[f32],
+    coarse: &[f32],
+    fine_squares: &[f64],
+    coarse_squares: &[f64],
+) -> Answer
+    ensures { λ r. ⌜ r ≡ openingRefusal configuration hop (film bands (now (times .entry)) (now (values .entry))) (lent (now (fine .entry)) (now (coarse .entry)) (now («fine_squares» .entry)) (now («coarse_squares» .entry))) ⌝ }
+{
+    let n = times.len();
+    if !is_valid_configuration(configuration) {
+        return Answer::InvalidConfiguration;
+    }
+    if !is_hop(hop) {
+        return Answer::HopOutOfRange;
+    }
+    if !are_counts(n, bands) {
+        return Answer::ReferenceTooLarge;
+    }
+    if values.len() != bands * n {
+        return Answer::ReferenceMiscounted;
+    }
+    if !are_near_or_not_finite(times) {
+        return Answer::ReferenceTimeTooFar;
+    }
+    if !index_fits(n, bands, fine, coarse, fine_squares, coarse_squares) {
+        return Answer::IndexTooShort;
+    }
+    Answer::Opened
+}
+
+fn is_valid_window(bands: usize, times: &[f64], energies: &[f64], values: &[f32]) -> bool
+    requires { ⌜ bands ≤ 64 ⌝ ∗ ⌜ length (now times) ≤ 1024 ⌝ }
+    ensures { λ r. ⌜ r ≡ validWindow (window bands (now (times .entry)) (now (energies .entry)) (now (values .entry))) ⌝ }
+{
+    let n = times.len();
+    (0 < bands) & ((energies.len() == n) & ((values.len() == bands * n) & are_valid(values)))
+}
+
+fn work_fits(
+    bands: usize,
+    frames: usize,
+    reference_frames: usize,
+    room32: usize,
+    room64: usize,
+) -> bool
+    requires { ⌜ bands ≤ 64 ⌝ ∗ ⌜ frames ≤ 1024 ⌝ ∗ ⌜ «reference_frames» ≤ 65535 ⌝ }
+    ensures { λ r. ⌜ r ≡ workFits bands frames «reference_frames» room32 room64 ⌝ }
+{
+    (2 * bands * frames <= room32) & (3 * bands * (frames + 1) + reference_frames <= room64)
+}
+
+fn handed_refusal(
+    settings: Settings,
+    fine: &[f32],
+    coarse: &[f32],
+    fine_squares: &[f64],
+    coarse_squares: &[f64],
+    bands: usize,
+    times: &[f64],
+    energies: &[f64],
+    values: &[f32],
+    clock: ClockMs,
+    room32: usize,
+    room64: usize,
+) -> Answer
+    ensures { λ r. ⌜ r ≡ handedRefusal settings (handed (lent (now (fine .entry)) (now (coarse .entry)) (now («fine_squares» .entry)) (now («coarse_squares» .entry))) (window bands (now (times .entry)) (now (energies .entry)) (now (values .entry))) clock room32 room64) ⌝ }
+{
+    let n = times.len();
+    let frames = settings.reference_frames as usize;
+    let reference_bands = settings.reference_bands as usize;
+    if !index_fits(frames, reference_bands, fine, coarse, fine_squares, coarse_squares) {
+        return Answer::IndexTooShort;
+    }
+    if !is_finite(clock.0) {
+        return Answer::ClockNotFinite;
+    }
+    if n == 0 {
+        return Answer::NoFrames;
+    }
+    if 1024 < n {
+        return Answer::WindowTooLarge;
+    }
+    if 64 < bands {
+        return Answer::WindowTooLarge;
+    }
+    if !is_valid_window(bands, times, energies, values) {
+        return Answer::WindowInvalid;
+    }
+    if !are_near(times) {
+        return Answer::WindowTimeOutOfRange;
+    }
+    if !are_valid_energies(energies) {
+        return Answer::WindowTimeOutOfRange;
+    }
+    if !work_fits(bands, n, frames, room32, room64) {
+        return Answer::WorkTooShort;
+    }
+    Answer::Computed
+}
+
+pub fn submission_refusal(
+    engine: Engine,
+    fine: &[f32],
+    coarse: &[f32],
+    fine_squares: &[f64],
+    coarse_squares: &[f64],
+    bands: usize,
+    times: &[f64],
+    energies: &[f64],
+    values: &[f32],
+    clock: ClockMs,
+    room32: usize,
+    room64: usize,
+) -> Answer
+    ensures { λ r. ⌜ r ≡ submissionRefusal engine (handed (lent (now (fine .entry)) (now (coarse .entry)) (now («fine_squares» .entry)) (now («coarse_squares» .entry))) (window bands (now (times .entry)) (now (energies .entry)) (now (values .entry))) clock room32 room64) ⌝ }
+{
+    if !is_valid_engine(engine) {
+        return Answer::StateOutOfRange;
+    }
+    let settings = engine.settings;
+    handed_refusal(
+        settings,
+        fine,
+        coarse,
+        fine_squares,
+        coarse_squares,
+        bands,
+        times,
+        energies,
+        values,
+        clock,
+        room32,
+        room64,
+    )
+}

@@ -1,0 +1,80 @@
+// Ranges of numbers, and scans of lists for them.
+ghost use mathlib.Core.Path.{_≡_};
+ghost use Rattle.engine_spec.specs.Refusals.{every, hopInRange, near, nearOrNotFinite, trackNumber, validEnergy, within};
+use numbers::float::is_finite;
+
+// Whether x lies from -limit to limit.
+pub fn is_within(limit: f64, x: f64) -> bool
+    ensures { λ r. ⌜ r ≡ within limit x ⌝ }
+{
+    (-limit <= x) & (x <= limit)
+}
+
+pub fn is_near(t: f64) -> bool
+    ensures { λ r. ⌜ r ≡ near t ⌝ }
+{
+    is_within(1000000000000.0, t)
+}
+
+pub fn is_track_number(x: f64) -> bool
+    ensures { λ r. ⌜ r ≡ trackNumber x ⌝ }
+{
+    is_within(10000000000000.0, x)
+}
+
+fn is_near_or_not_finite(t: f64) -> bool
+    ensures { λ r. ⌜ r ≡ nearOrNotFinite t ⌝ }
+{
+    !is_finite(t) | is_near(t)
+}
+
+fn is_valid_energy(x: f64) -> bool
+    ensures { λ r. ⌜ r ≡ validEnergy x ⌝ }
+{
+    x < 1.0 / 0.0
+}
+
+pub fn is_hop(hop: f64) -> bool
+    ensures { λ r. ⌜ r ≡ hopInRange hop ⌝ }
+{
+    (1.0 <= hop) & (hop <= 1000.0)
+}
+
+pub fn are_near(times: &[f64]) -> bool
+    ensures { λ r. ⌜ r ≡ every near (now (times .entry)) ⌝ }
+{
+    let mut i = 0usize;
+    while i < times.len() {
+        if !is_near(times[i]) {
+            return false;
+        }
+        i += 1;
+    }
+    true
+}
+
+pub fn are_near_or_not_finite(times: &[f64]) -> bool
+    ensures { λ r. ⌜ r ≡ every nearOrNotFinite (now (times .entry)) ⌝ }
+{
+    let mut i = 0usize;
+    while i < times.len() {
+        if !is_near_or_not_finite(times[i]) {
+            return false;
+        }
+        i += 1;
+    }
+    true
+}
+
+pub fn are_valid_energies(energies: &[f64]) -> bool
+    ensures { λ r. ⌜ r ≡ every validEnergy (now (energies .entry)) ⌝ }
+{
+    let mut i = 0usize;
+    while i < energies.len() {
+        if !is_valid_energy(energies[i]) {
+            return false;
+        }
+        i += 1;
+    }
+    true
+}

@@ -1,0 +1,64 @@
+-- A snapshot put together from its parts. Assumes nothing.
+use Prim.Native.Nat.{ℕ}
+use mathlib.Core.Bool.{Bool, cond, _&&_}
+use mathlib.Core.List.{List}
+use mathlib.Core.Path.{_≡_}
+use lib.ListN.{length}
+use lib.Ieee.{Float, eq}
+use Rattle.numbers.specs.Arithmetic.{zero⁺}
+use Rattle.matcher_picks.specs.Candidates.{marginOf}
+use Rattle.matcher_picks.specs.declared.candidates.Candidate.{Candidate}
+use Rattle.engine_spec.specs.Windows.{Window, duration}
+use Rattle.engine_spec.specs.Readiness.{activeFraction}
+use Rattle.engine_spec.specs.Publishing.{Decision, ambiguous, ofBest, phaseOf, stageOf, estimateAt, confidenceOf, isPublishing, trackCorrelation, trackCount, magnitudeOf, candidateArray, spectralOf, diagnosticsOf, publish}
+use Rattle.engine_spec.specs.declared.types.Settings.{Settings}
+use Rattle.engine_spec.specs.declared.types.Milestones.{Milestones}
+use Rattle.engine_spec.specs.declared.types.LockPhase.{LockPhase}
+use Rattle.engine_spec.specs.declared.types.Stage.{Stage}
+use Rattle.engine_spec.specs.declared.types.Estimate.{Estimate}
+use Rattle.engine_spec.specs.declared.types.Maybe.{Maybe}
+use Rattle.engine_spec.specs.declared.types.CandidateDiagnostics.{CandidateDiagnostics}
+use Rattle.engine_spec.specs.declared.types.SpectralDiagnostics.{SpectralDiagnostics}
+use Rattle.engine_spec.specs.declared.types.Diagnostics.{Diagnostics}
+use Rattle.engine_spec.specs.declared.types.Snapshot.{Snapshot}
+
+module _ (s : Settings) (w : Window) (d : Decision) where
+  pub published : (m : Milestones) {ph : LockPhase} {st : Stage} {es : Estimate} {co : Float} {dg : Diagnostics}
+      → ph ≡ phaseOf (d .reached) → st ≡ stageOf (d .verdict .state) (d .global) → es ≡ estimateAt w (d .verdict .offset)
+      → co ≡ confidenceOf (d .verdict .offset) (cond (isPublishing (d .verdict .state)) (trackCorrelation (d .lock .accepted)) (ofBest (λ (c : Candidate). c .score) (d .found))) (d .verdict .coast)
+      → dg ≡ diagnosticsOf s w d
+      → _≡_ {A = Snapshot} record { state = d .verdict .state; phase = ph; stage = st; estimate = es; «withhold_reason» = d .verdict .reason; confidence = co; diagnostics = dg; milestones = m } (publish s w d m)
+  unfolding publish
+  published m p q r t u = λ i. record { state = d .verdict .state; phase = p i; stage = q i; estimate = r i; «withhold_reason» = d .verdict .reason; confidence = t i; diagnostics = u i; milestones = m }
+
+  pub diagnosed : {pu am : Bool} {ac de : Float} {os : Maybe} {tc n : ℕ} {cs : List CandidateDiagnostics} {sp : SpectralDiagnostics}
+      → pu ≡ isPublishing (d .verdict .state) → ac ≡ activeFraction (s .configuration) w → am ≡ ambiguous (d .found) → de ≡ cond (d .global) (marginOf (d .found)) zero⁺
+      → os ≡ magnitudeOf (d .verdict .innovation) → tc ≡ trackCount (d .lock .accepted) → n ≡ length (d .found) → cs ≡ candidateArray (s .«hop_ms») w (d .found) → sp ≡ spectralOf d
+      → _≡_ {A = Diagnostics} record {
+        «query_duration_ms» = duration w;
+        «active_frame_fraction» = ac;
+        «coarse_ambiguous» = d .global && am;
+        «dense_margin» = de;
+        «offset_stability_ms» = os;
+        «track_innovation_ms» = d .verdict .innovation;
+        «track_count» = tc;
+        «offset_tracker_confirmed» = pu;
+        «offset_tracker_stable» = pu && eq (d .verdict .coast) zero⁺;
+        «candidate_count» = n;
+        candidates = cs;
+        spectral = sp;
+      } (diagnosticsOf s w d)
+  diagnosed p a b e f g h c q = λ i. record {
+    «query_duration_ms» = duration w;
+    «active_frame_fraction» = a i;
+    «coarse_ambiguous» = d .global && b i;
+    «dense_margin» = e i;
+    «offset_stability_ms» = f i;
+    «track_innovation_ms» = d .verdict .innovation;
+    «track_count» = g i;
+    «offset_tracker_confirmed» = p i;
+    «offset_tracker_stable» = p i && eq (d .verdict .coast) zero⁺;
+    «candidate_count» = h i;
+    candidates = c i;
+    spectral = q i;
+  }

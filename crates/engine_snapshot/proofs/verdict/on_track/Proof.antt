@@ -1,0 +1,42 @@
+-- put
+use Prim.Native.Nat.{ℕ, _+_, _-_, _*_, _≤_, _<_}
+use native.Mathlib.Omega.{arith}
+use native.Mathlib.Nat.{le-of-eq}
+use mathlib.Core.Path.{_≡_, refl, sym, ap, subst, _∙_}
+use borrow.Author.Tests.{not-true, not-false}
+use lib.ListN.{length, getD, take}
+use lib.Dec.{T}
+use lib.Ieee.{Float, ofBits, fits, binary64}
+use mathlib.Core.List.{List}
+use Rattle.matcher_picks.specs.declared.candidates.Candidate.{Candidate}
+use Rattle.engine_snapshot.proofs.ShownLaws.{shown-none, shown-more, array-shown, zero-magnitude, negative-magnitude, positive-magnitude}
+use Rattle.engine_snapshot.proofs.DecideLaws.{ready-frames, decides-unready, decides-ready, twice-less, estimate-ending, ambiguous-some}
+use Rattle.engine_snapshot.specs.Decided.{shownArray}
+use Rattle.matcher_picks.proofs.CandidateLaws.{eight, listed-result}
+use lib.Dec.{lit≤}
+use lib.Seq.{length-take-le}
+use mathlib.Core.List.{[]}
+use Rattle.engine_spec.specs.Publishing.{ofBest, freshEvidence, publish, candidateArray, comparableFrames, coverage}
+use Rattle.engine_spec.specs.Windows.{matcherIn}
+use Rattle.engine_spec.specs.Publishing.{confidenceOf}
+use Rattle.engine_snapshot.specs.Decided.{decisionIn}
+use Rattle.engine_snapshot.proofs.PublishLaws.{published, diagnosed}
+use Rattle.engine_spec.specs.Lent.{lent, window}
+use Rattle.engine_lock.specs.Views.{reachedIn}
+-- end
+use borrow.Author.Needs.{needs}
+use Rattle.engine_snapshot.proofs.verdict.on_track.Statement.{statement}
+use Rattle.engine_snapshot.proofs.verdict.on_track.Tie as tie
+
+-- src/verdict.rt:114:1
+returns : tie.Need-returns
+unfolding ofBits
+returns c = simp (← (c .before .before .on-track-state .ensures), ← (c .before .on-track-reason .ensures), ← (c .at-least .ensures))
+
+pub on-track-spec : {M : Type 1} → statement M
+on-track-spec =
+    tie.close (tie.spec
+    (λ c κs. search needs)
+    (λ c κs. search needs)
+    (λ c κs. search needs)
+    returns)

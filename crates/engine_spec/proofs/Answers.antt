@@ -1,0 +1,235 @@
+-- What one computed answer does and shows: the facts of proofs/Effects.antt, of every answer. Assumes nothing.
+use mathlib.Core.Bool.{Bool, true, false, cond, not, _||_}
+use mathlib.Core.List.{List, [], _∷_}
+use mathlib.Core.Logic.{inl, inr}
+use mathlib.Core.Path.{_≡_, refl, sym, ap, _∙_, subst}
+use lib.Dec.{T, T-not, ltb, leb·zero, leb·suc-suc}
+use lib.ListN.{length, getD}
+use lib.Ieee.{Float, binary64, le, lt, ofBits}
+use lib.Ieee.Scale.{finite}
+use Rattle.numbers.specs.Arithmetic.{_⊕_, _⊖_, zero⁺, absolute}
+use Rattle.number_laws.proofs.Sums.{sub-self}
+use Rattle.matcher_picks.specs.declared.candidates.Candidate.{Candidate}
+use Rattle.matcher.specs.Index.{Matcher}
+use Rattle.matcher.specs.Search.{wholeSearch, localSearch}
+use Rattle.engine_spec.specs.Thresholds.{coastMostMs, localMs, samePlaceMs}
+use Rattle.engine_spec.specs.Windows.{Window, indexed, query, endpointOf, evidence, _after_}
+use Rattle.engine_spec.specs.Opening.{blankCandidate}
+use Rattle.engine_spec.specs.Readiness.{isNone}
+use Rattle.engine_spec.specs.Tracking.{Tracked, tracked, followed, supports, mayCoast}
+use Rattle.engine_spec.specs.Locking.{Reached, Searched, searched, wholeDue, wholeSearched, passed, passing, confirms, firstEvidence, keptOrReplaced}
+use Rattle.engine_spec.specs.Publishing.{Verdict, Decision, publish, ready, unready, verdictOf, ambiguous, candidatesShown, candidateArray}
+use Rattle.engine_spec.specs.SupportAge.{isLocked}
+use Rattle.engine_spec.specs.Chain.{silent, bestOffset}
+use Rattle.engine_spec.specs.Guarantee.{Shows}
+use Rattle.engine_spec.specs.Reached.{unreachable}
+use Rattle.engine_spec.specs.declared.types.RecordedMs.{RecordedMs}
+use Rattle.engine_spec.specs.declared.types.Settings.{Settings}
+use Rattle.engine_spec.specs.declared.types.Lock.{Lock}
+use Rattle.engine_spec.specs.declared.types.Milestones.{Milestones}
+use Rattle.engine_spec.specs.declared.types.Maybe.the-variants as maybe
+use Rattle.engine_spec.specs.declared.types.Hypothesis.{Hypothesis}
+use Rattle.engine_spec.specs.declared.types.Hypothesis.the-variants as hypothesis
+use Rattle.engine_spec.specs.declared.types.State.{State}
+use Rattle.engine_spec.specs.declared.types.State.the-variants as state
+use Rattle.engine_spec.specs.declared.types.WithholdReason.{WithholdReason}
+use Rattle.engine_spec.specs.declared.types.WithholdReason.the-variants as reason
+use Rattle.engine_spec.proofs.Tests.{cond-elim, not-or-r, T-is, not-T-is}
+use Rattle.engine_spec.proofs.Effects.{isHeld, Track, gone, set, kept, same, weak, pass, Effects, bestOf, Shown, TrackShown, free, fast, View, Silence}
+
+-- ---- the track
+-- A local search leaves the old track, or one with this evidence,
+followed-track : (lock : Bool) (offset : Float) (first last : RecordedMs) (c : Float) (now : RecordedMs) (found : List Candidate)
+    → let t = followed offset first last c now found in Track now lock (hypothesis.Held offset first last c) (t .accepted) (t .supported)
+unfolding followed
+followed-track lock offset first last c now [] = kept
+followed-track lock offset first last c now (best ∷ rest) =
+    cond-elim (λ (t : Tracked). Track now lock (hypothesis.Held offset first last c) (t .accepted) (t .supported)) (supports offset best) _ _
+    (λ h. set refl (inr tt)) (λ h. kept)
+
+-- or none, where the track may not coast on.
+tracked-track : (lock : Bool) (m : Matcher) (hop : Float) (w : Window) (h : Hypothesis)
+    → let t = tracked m hop w h in Track (evidence hop w) lock h (t .accepted) (t .supported)
+unfolding tracked
+tracked-track lock m hop w hypothesis.Absent = gone
+tracked-track lock m hop w (hypothesis.Held offset first last c) =
+    cond-elim (λ (t : Tracked). Track (evidence hop w) lock (hypothesis.Held offset first last c) (t .accepted) (t .supported)) (mayCoast (evidence hop w) last) _ _
+    (λ h. followed-track lock offset first last c (evidence hop w) (localSearch (m .reference) (m .fine) (query w) (offset ⊖ localMs) (offset ⊕ localMs))) (λ h. gone)
+
+-- The end of a chain leaves one with this evidence: a track is kept only where the window supports it.
+replaced-track : (now : RecordedMs) {h a : Hypothesis} {supported : Bool} (best : Candidate) → Track now true h a supported → Track now true h (keptOrReplaced a supported best now) true
+unfolding keptOrReplaced
+replaced-track now best gone = set refl (inl tt)
+replaced-track now {h = h} best (set {o = o} e u) =
+    cond-elim (λ (t : Hypothesis). Track now true h t true) (lt samePlaceMs (absolute (o ⊖ best .«offset_ms»)) || false) _ _ (λ x. set refl (inl tt)) (λ x. set e (inl tt))
+replaced-track now {h = h} best (kept {o = o}) =
+    cond-elim (λ (t : Hypothesis). Track now true h t true) (lt samePlaceMs (absolute (o ⊖ best .«offset_ms»)) || true) _ _ (λ x. set refl (inl tt))
+    (λ x. absurd (not-or-r (lt samePlaceMs (absolute (o ⊖ best .«offset_ms»))) true x))
+
+-- ---- the searches of one window
+module _ (m : Matcher) (hop : Float) (w : Window) (k : Reached) (l : Lock) where
+  -- a passing whole search: the end of a chain, or not
+  passed-effects : (b : Candidate) (rest : List Candidate) → b ∷ rest ≡ wholeSearch m (query w) → T (passing (b ∷ rest))
+      → Effects m hop w k l (passed hop w k (firstEvidence (l .pending) (b .«offset_ms») (evidence hop w)) (tracked m hop w (l .accepted)) b rest)
+  unfolding passed
+  passed-effects b rest q p =
+      let now = evidence hop w in
+      let t = tracked m hop w (l .accepted) in
+      let ends = confirms hop (firstEvidence (l .pending) (b .«offset_ms») now) now b in
+      cond-elim (λ (x : Searched). Effects m hop w k l x) ends _ _
+      (λ h. record {
+        lock = true;
+        track = replaced-track now b (tracked-track true m hop w (l .accepted));
+        pend = pass q p refl (sym (T-is ends h)) refl;
+      })
+      (λ h. record { lock = false; track = tracked-track false m hop w (l .accepted); pend = pass q p refl (sym (not-T-is ends h)) refl })
+
+  -- a whole search
+  whole-effects : (found : List Candidate) → found ≡ wholeSearch m (query w) → Effects m hop w k l (wholeSearched hop w k (l .pending) (tracked m hop w (l .accepted)) found)
+  unfolding wholeSearched passing
+  whole-effects [] q = record { lock = false; track = tracked-track false m hop w (l .accepted); pend = weak q tt refl refl }
+  whole-effects (b ∷ rest) q =
+      cond-elim (λ (x : Searched). Effects m hop w k l x) (passing (b ∷ rest)) _ _
+      (λ p. passed-effects b rest q p)
+      (λ p. record { lock = false; track = tracked-track false m hop w (l .accepted); pend = weak q p refl refl })
+
+-- What the searches do, with a whole search or without.
+pub effects : (m : Matcher) (hop : Float) (w : Window) (k : Reached) (l : Lock) → Effects m hop w k l (searched m hop w k l)
+unfolding searched
+effects m hop w k l =
+    let t = tracked m hop w (l .accepted) in
+    cond-elim (λ (x : Searched). Effects m hop w k l x) (wholeDue (t .supported) (endpointOf w) (l .«last_global_search_ms»)) _ _
+    (λ h. whole-effects m hop w k l (wholeSearch m (query w)) refl)
+    (λ h. record { lock = false; track = tracked-track false m hop w (l .accepted); pend = same refl refl })
+
+-- ---- what is shown of a search
+-- The first of the array is the best of what was found.
+best-shown : (hop : Float) (w : Window) (found : List Candidate) → cond (ltb 0 (length found)) (maybe.Is (getD (candidateArray hop w found) 0 blankCandidate .«offset_ms»)) maybe.Absent ≡ bestOf found
+unfolding candidatesShown
+best-shown hop w [] = refl
+best-shown hop w (c ∷ l) = rw (leb·suc-suc 0 (length l), leb·zero (length l))
+
+found-shown : (s : Settings) (w : Window) (d : Decision) (ms : Milestones) → Shown (publish s w d ms) (d .global) (d .found)
+unfolding publish bestOffset
+found-shown s w d ms = record { whole = refl; correlation = refl; margin = refl; first-half = refl; second-half = refl; recent = refl; best = best-shown (s .«hop_ms») w (d .found) }
+
+-- A whole search is shown in all fields.
+pub shows-whole : (s : Settings) (w : Window) (d : Decision) (ms : Milestones) → T (d .global) → Shows (s .«hop_ms») w (d .found) (publish s w d ms)
+unfolding publish
+shows-whole s w d ms g =
+    let e : d .global ≡ true = T-is (d .global) g in
+    record { count = refl; candidates = refl; correlation = refl; margin = rw e; first-half = refl; second-half = refl; recent = refl; dense-margin = rw e; coarse-ambiguous = rw e }
+
+-- ---- a window that could not be searched
+quiet-state : (indexed confirmed : Bool) → T (silent (cond indexed (cond confirmed state.Lost state.Listening) state.Failed))
+unfolding silent
+quiet-state true true = tt
+quiet-state true false = tt
+quiet-state false confirmed = tt
+
+usual-quiet : (indexed confirmed : Bool) → unreachable (cond indexed (cond confirmed state.Lost state.Listening) state.Failed) ≡ false
+unfolding unreachable
+usual-quiet true true = refl
+usual-quiet true false = refl
+usual-quiet false confirmed = refl
+
+-- What its snapshot shows.
+pub silenced : (s : Settings) (w : Window) (k : Reached) (l : Lock) (r : WithholdReason) (ms : Milestones) → T (not (isNone r)) → Silence (publish s w (unready s k l r) ms)
+unfolding publish
+silenced s w k l r ms h = record {
+  shown = found-shown s w (unready s k l r) ms;
+  quiet = quiet-state (indexed s) (k .confirmed);
+  withheld = h;
+  usual = usual-quiet (indexed s) (k .confirmed);
+}
+
+-- ---- the states and reasons of a window that was searched
+loud-off : (confirmed : Bool) → T (not (silent (cond confirmed state.Relocking state.Locking)))
+unfolding silent
+loud-off true = tt
+loud-off false = tt
+
+loud-on : (final : Bool) → T (not (silent (cond final state.Locked state.Confirmed)))
+unfolding silent
+loud-on true = tt
+loud-on false = tt
+
+usual-off : (confirmed : Bool) → unreachable (cond confirmed state.Relocking state.Locking) ≡ false
+unfolding unreachable
+usual-off true = refl
+usual-off false = refl
+
+usual-on : (final : Bool) → T final → unreachable (cond final state.Locked state.Confirmed) ≡ false
+unfolding unreachable
+usual-on true h = refl
+usual-on false h = absurd h
+
+not-locked : (confirmed : Bool) → cond confirmed state.Relocking state.Locking ≡ state.Locked → ⊥
+unfolding isLocked
+not-locked true h = subst (λ (s : State). T (not (isLocked s))) h tt
+not-locked false h = subst (λ (s : State). T (not (isLocked s))) h tt
+
+withheld-off : (ambiguous : Bool) → isNone (cond ambiguous reason.AmbiguousOffset reason.WeakAlignmentPeak) ≡ false
+unfolding isNone
+withheld-off true = refl
+withheld-off false = refl
+
+withheld-on : (supported : Bool) → isNone (cond supported reason.None reason.WeakAlignmentPeak) ≡ supported
+unfolding isNone
+withheld-on true = refl
+withheld-on false = refl
+
+-- A track with this evidence may coast: it coasts 0.
+zero-coasts : T (le zero⁺ coastMostMs)
+unfolding le ofBits
+zero-coasts = tt
+
+now-coasts : (now last : RecordedMs) → T (finite (now .0)) → last ≡ now → T (mayCoast now last)
+now-coasts now last f e = subst (λ (x : Float). T (le x coastMostMs)) (sym (ap (λ (x : RecordedMs). now after x) e ∙ sub-self binary64 (now .0) f)) zero-coasts
+
+-- ---- a window that was searched, by the track a that its searches x left
+module _ (x : Searched) (now : RecordedMs) where
+  loud : (a : Hypothesis) → T (not (silent (verdictOf a now x .state)))
+  unfolding verdictOf
+  loud hypothesis.Absent = loud-off (x .reached .confirmed)
+  loud (hypothesis.Held offset first last c) =
+      cond-elim (λ (v : Verdict). T (not (silent (v .state)))) (mayCoast now last) _ _ (λ h. loud-on (x .reached .final)) (λ h. loud-off (x .reached .confirmed))
+
+  usual : (a : Hypothesis) → (T (isHeld a) → T (x .reached .final)) → unreachable (verdictOf a now x .state) ≡ false
+  unfolding verdictOf
+  usual hypothesis.Absent f = usual-off (x .reached .confirmed)
+  usual (hypothesis.Held offset first last c) f =
+      cond-elim (λ (v : Verdict). unreachable (v .state) ≡ false) (mayCoast now last) _ _ (λ h. usual-on (x .reached .final) (f tt)) (λ h. usual-off (x .reached .confirmed))
+
+  -- A reason is shown exactly where the window supports no track: a supported one has this evidence, hence may coast.
+  reasoned : {lock : Bool} {before a : Hypothesis} {supported : Bool} → x .supported ≡ supported → T (finite (now .0)) → Track now lock before a supported → isNone (verdictOf a now x .reason) ≡ supported
+  unfolding verdictOf
+  reasoned e f gone = withheld-off (ambiguous (x .found))
+  reasoned e f (set {l = l} h u) =
+      cond-elim (λ (v : Verdict). isNone (v .reason) ≡ true) (mayCoast now l) _ _ (λ y. withheld-on (x .supported) ∙ e) (λ y. absurd (T-not (mayCoast now l) y (now-coasts now l f h)))
+  reasoned e f (kept {l = l}) =
+      cond-elim (λ (v : Verdict). isNone (v .reason) ≡ false) (mayCoast now l) _ _ (λ y. withheld-on (x .supported) ∙ e) (λ y. withheld-off (ambiguous (x .found)))
+
+  -- A Locked snapshot is on the track.
+  track : (s : Settings) (w : Window) (ms : Milestones) (a : Hypothesis)
+      → TrackShown (publish s w (record { lock = x .lock; reached = x .reached; global = x .global; found = x .found; verdict = verdictOf a now x }) ms) now a
+  unfolding verdictOf publish
+  track s w ms hypothesis.Absent = free (not-locked (x .reached .confirmed))
+  track s w ms (hypothesis.Held offset first last c) =
+      cond-elim (λ (v : Verdict). TrackShown (publish s w (record { lock = x .lock; reached = x .reached; global = x .global; found = x .found; verdict = v }) ms) now (hypothesis.Held offset first last c)) (mayCoast now last) _ _
+      (λ h. fast (record { estimate = tt; coast = refl; within = h })) (λ h. free (not-locked (x .reached .confirmed)))
+
+-- What the snapshot of a searched window shows.
+pub viewed : (s : Settings) (w : Window) (se : Searched) (l : Lock) (ms : Milestones) → T (finite (evidence (s .«hop_ms») w .0)) → (lock : Bool)
+    → Track (evidence (s .«hop_ms») w) lock (l .accepted) (se .lock .accepted) (se .supported) → View (s .«hop_ms») w se (publish s w (ready (s .«hop_ms») w se) ms)
+unfolding publish
+viewed s w se l ms f lock t =
+    let now = evidence (s .«hop_ms») w in
+    let a = se .lock .accepted in
+    record {
+      shown = found-shown s w (ready (s .«hop_ms») w se) ms;
+      loud = loud se now a;
+      reason = reasoned se now refl f t;
+      track = track se now s w ms a;
+      usual = usual se now a;
+    }

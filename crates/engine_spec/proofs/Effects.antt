@@ -1,0 +1,114 @@
+-- What one computed answer does and shows, in the few facts that the chain's proof rests on. The facts themselves; proofs/Answers.antt shows them of every answer.
+use mathlib.Core.Bool.{Bool, true, false, cond, not}
+use mathlib.Core.List.{List, [], _∷_}
+use mathlib.Core.Logic.{_⊎_}
+use mathlib.Core.Path.{_≡_}
+use lib.Dec.{T}
+use lib.Ieee.{Float}
+use lib.Ieee.Scale.{finite}
+use Rattle.numbers.specs.Arithmetic.{_⊗_, zero⁺, atLeast}
+use Rattle.number_laws.specs.Values.{Number}
+use Rattle.matcher_bands.specs.Centring.{contextFrames}
+use Rattle.matcher_picks.specs.Candidates.{marginOf}
+use Rattle.matcher_picks.specs.declared.candidates.Candidate.{Candidate}
+use Rattle.matcher.specs.Index.{Matcher}
+use Rattle.matcher.specs.Search.{wholeSearch, localSearch}
+use Rattle.matcher_laws.specs.SoundSearch.{SoundResult}
+use Rattle.engine_spec.specs.Windows.{Window, indexed, query, endpointOf, evidence, _after_}
+use Rattle.engine_spec.specs.Readiness.{isNone}
+use Rattle.engine_spec.specs.Tracking.{mayCoast}
+use Rattle.engine_spec.specs.Locking.{Reached, Searched, passing, firstEvidence, startedOrCarried, heldOrDropped, confirms, afterPassing, afterChain}
+use Rattle.engine_spec.specs.Publishing.{ofBest}
+use Rattle.engine_spec.specs.Chain.{silent, bestOffset}
+use Rattle.engine_spec.specs.Guarantee.{estimated}
+use Rattle.engine_spec.specs.Reached.{unreachable}
+use Rattle.engine_spec.specs.declared.types.RecordedMs.{RecordedMs}
+use Rattle.engine_spec.specs.declared.types.Settings.{Settings}
+use Rattle.engine_spec.specs.declared.types.Lock.{Lock}
+use Rattle.engine_spec.specs.declared.types.Snapshot.{Snapshot}
+use Rattle.engine_spec.specs.declared.types.Maybe.{Maybe}
+use Rattle.engine_spec.specs.declared.types.Maybe.the-variants as maybe
+use Rattle.engine_spec.specs.declared.types.Hypothesis.{Hypothesis}
+use Rattle.engine_spec.specs.declared.types.Hypothesis.the-variants as hypothesis
+use Rattle.engine_spec.specs.declared.types.State.the-variants as state
+
+-- ---- what is asked of a window that was not refused
+pub record Fair (s : Settings) (m : Matcher) (w : Window) : Type 0 where
+  pub endpoint : T (finite (endpointOf w .0))
+  pub evidence : T (finite (evidence (s .«hop_ms») w .0))
+  pub halves : T (indexed s) → (c : Candidate) (l : List Candidate) → c ∷ l ≡ wholeSearch m (query w) → Number (c .«first_half_score») × Number (c .«second_half_score»)
+
+-- and what its searches give
+pub record Sound (s : Settings) (m : Matcher) (w : Window) : Type 0 where
+  pub whole : T (indexed s) → SoundResult (wholeSearch m (query w))
+  pub near : T (indexed s) → (lower upper : Float) → SoundResult (localSearch (m .reference) (m .fine) (query w) lower upper)
+
+-- what evidence time is less than the endpoint by
+abbrev pub trim : Settings → Float
+trim s = contextFrames (s .«hop_ms») ⊗ s .«hop_ms»
+
+-- ---- what the searches do
+abbrev pub isHeld : Hypothesis → Bool
+isHeld hypothesis.Absent = false
+isHeld (hypothesis.Held offset first last correlation) = true
+
+-- The accepted track before and after, and whether the window supports it: gone, set to this evidence at the end of a chain or from a track that was there, or as it was.
+pub data Track (now : RecordedMs) (lock : Bool) : Hypothesis → Hypothesis → Bool → Type 0 where
+  gone : {h : Hypothesis} → Track now lock h hypothesis.Absent false
+  set : {h : Hypothesis} {o : Float} {f l : RecordedMs} {c : Float} → l ≡ now → T lock ⊎ T (isHeld h) → Track now lock h (hypothesis.Held o f l c) true
+  kept : {o : Float} {f l : RecordedMs} {c : Float} → Track now lock (hypothesis.Held o f l c) (hypothesis.Held o f l c) false
+
+-- Pending p and the milestones k before, s after, with a whole search or none, what it found, and whether a chain ends: nothing, a whole search that doesn't pass, or one that does.
+pub data Pend (m : Matcher) (hop : Float) (w : Window) (k : Reached) (p : Hypothesis) (s : Searched) : Bool → List Candidate → Bool → Type 0 where
+  same : {l : List Candidate} → s .lock .pending ≡ p → s .reached ≡ k → Pend m hop w k p s false l false
+  weak : {l : List Candidate} → l ≡ wholeSearch m (query w) → T (not (passing l)) → s .lock .pending ≡ heldOrDropped p l (evidence hop w) → s .reached ≡ k → Pend m hop w k p s true l false
+  pass : {b : Candidate} {l : List Candidate} {lock : Bool} → b ∷ l ≡ wholeSearch m (query w) → T (passing (b ∷ l))
+      → s .lock .pending ≡ startedOrCarried p b (evidence hop w)
+      → lock ≡ confirms hop (firstEvidence p (b .«offset_ms») (evidence hop w)) (evidence hop w) b
+      → s .reached ≡ cond lock (afterChain k) (afterPassing k) → Pend m hop w k p s true (b ∷ l) lock
+
+pub record Effects (m : Matcher) (hop : Float) (w : Window) (k : Reached) (l : Lock) (s : Searched) : Type 0 where
+  pub lock : Bool
+  pub track : Track (evidence hop w) lock (l .accepted) (s .lock .accepted) (s .supported)
+  pub pend : Pend m hop w k (l .pending) s (s .global) (s .found) lock
+
+-- ---- what a snapshot shows
+abbrev pub bestOf : List Candidate → Maybe
+bestOf [] = maybe.Absent
+bestOf (c ∷ l) = maybe.Is (c .«offset_ms»)
+
+-- Of a search that found these, whole or not.
+pub record Shown (n : Snapshot) (global : Bool) (found : List Candidate) : Type 0 where
+  pub whole : n .diagnostics .spectral .«global_search» ≡ global
+  pub correlation : n .diagnostics .spectral .correlation ≡ ofBest (λ (c : Candidate). c .score) found
+  pub margin : n .diagnostics .spectral .«competing_peak_margin» ≡ cond global (maybe.Is (marginOf found)) maybe.Absent
+  pub first-half : n .diagnostics .spectral .«first_half_correlation» ≡ ofBest (λ (c : Candidate). c .«first_half_score») found
+  pub second-half : n .diagnostics .spectral .«second_half_correlation» ≡ ofBest (λ (c : Candidate). c .«second_half_score») found
+  pub recent : n .diagnostics .spectral .«recent_correlation» ≡ ofBest (λ (c : Candidate). c .«recent_score») found
+  pub best : bestOffset (n .diagnostics) ≡ bestOf found
+
+-- Of a track whose evidence ended at `last`.
+pub record OnTrack (n : Snapshot) (now last : RecordedMs) : Type 0 where
+  pub estimate : T (estimated (n .estimate))
+  pub coast : n .diagnostics .spectral .«coast_ms» ≡ atLeast zero⁺ (now after last)
+  pub within : T (mayCoast now last)
+
+-- A Locked snapshot is on the accepted track.
+pub data TrackShown (n : Snapshot) (now : RecordedMs) : Hypothesis → Type 0 where
+  free : {h : Hypothesis} → (n .state ≡ state.Locked → ⊥) → TrackShown n now h
+  fast : {o : Float} {f l : RecordedMs} {c : Float} → OnTrack n now l → TrackShown n now (hypothesis.Held o f l c)
+
+-- All of a snapshot after the searches s.
+pub record View (hop : Float) (w : Window) (s : Searched) (n : Snapshot) : Type 0 where
+  pub shown : Shown n (s .global) (s .found)
+  pub loud : T (not (silent (n .state)))
+  pub reason : isNone (n .«withhold_reason») ≡ s .supported
+  pub track : TrackShown n (evidence hop w) (s .lock .accepted)
+  pub usual : (T (isHeld (s .lock .accepted)) → T (s .reached .final)) → unreachable (n .state) ≡ false
+
+-- All of a snapshot of a window that could not be searched.
+pub record Silence (n : Snapshot) : Type 0 where
+  pub shown : Shown n false []
+  pub quiet : T (silent (n .state))
+  pub withheld : T (not (isNone (n .«withhold_reason»)))
+  pub usual : unreachable (n .state) ≡ false

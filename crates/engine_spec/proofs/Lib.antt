@@ -1,0 +1,21 @@
+-- what one answer does, the chain, the state reached, the list; in the order of use
+pub mod Tests
+pub mod Effects
+pub mod Answers
+pub mod Links
+pub mod Passing
+pub mod Pending
+pub mod Stamps
+pub mod Elapsed
+pub mod Following
+pub mod ShownCandidates
+pub mod Standing
+pub mod EvidenceBound
+pub mod MovedBound
+pub mod Validity
+pub mod Handed
+pub mod Openings
+pub mod Submissions
+pub mod Struck
+pub mod Run
+pub mod Figures

@@ -1,0 +1,161 @@
+-- The guarantee (specs/Guarantee.antt) and what is proved besides of every state reached (specs/Reached.antt): by induction along a list of submissions. Assumes nothing.
+use Prim.Native.Nat.{ℕ, zero, suc, _+_, _<_}
+use mathlib.Core.Bool.{true, false}
+use mathlib.Core.List.{List, _∷_}
+use mathlib.Core.Path.{_≡_, sym, ap, _∙_, subst}
+use native.Mathlib.Omega.{arith}
+use native.Mathlib.Nat.{lt-irrefl}
+use lib.Dec.{T}
+use lib.ListN.{length, getD}
+use lib.Ieee.{Float}
+use Rattle.matcher.specs.Index.{Matcher}
+use Rattle.engine_spec.specs.Windows.{Soundtrack, Index, Window, rereads}
+use Rattle.engine_spec.specs.Refusals.{Submission, refuses, handedRefusal, submissionRefusal}
+use Rattle.engine_spec.specs.Opening.{freshEngine, openedSettings, matcherOfFilm}
+use Rattle.engine_spec.specs.Submitting.{reread, computedFrom}
+use Rattle.engine_spec.specs.Chain.{Answered}
+use Rattle.engine_spec.specs.Guarantee.{answersTo, engineAfter, isComputed, remaining, AllHanded, unanswered, Trusted, Promised, Guarantee}
+use Rattle.engine_spec.specs.Reached.{unreachable, NeverSeven, NeverConfirmed}
+use Rattle.engine_spec.proofs.Standing.{Inv, start, Next, next}
+use Rattle.engine_spec.proofs.Handed.{near-endpoint, clock-finite}
+use Rattle.engine_spec.proofs.Openings.{Opening, engine-is, settings-valid, trim-finite, fair, sound, decision-is}
+use Rattle.engine_spec.proofs.Validity.{safe-fresh, safe-next}
+use Rattle.engine_spec.proofs.Submissions.{clash, computedBy, isAt, Grounds, New, refusal, again, computed, good-fresh, good-after, refusal-is, refusal-struck, answeredBy, Steps, stop, step, steps, told, Trace, end, more, trace}
+use Rattle.engine_spec.proofs.Struck.{alike, alike-self}
+use Rattle.engine_spec.specs.declared.types.Configuration.{Configuration}
+use Rattle.engine_spec.specs.declared.types.Settings.{Settings}
+use Rattle.engine_spec.specs.declared.types.Engine.{Engine}
+use Rattle.engine_spec.specs.declared.types.Endpoint.{Endpoint}
+use Rattle.engine_spec.specs.declared.types.Endpoint.the-variants as endpoint
+
+-- ---- an opening that is answered gives all that the list's proof rests on
+grounds : (c : Configuration) (hop : Float) (film : Soundtrack) (x : Index) → Opening c hop film x → Grounds (openedSettings c hop film) (matcherOfFilm hop film)
+grounds c hop film x o =
+    let s = openedSettings c hop film in
+    record {
+      trimmed = trim-finite o;
+      fresh = safe-fresh s (settings-valid o);
+      clocked = clock-finite s;
+      fair = fair o;
+      decision = decision-is o;
+      safe = λ e i good h q. safe-next s (matcherOfFilm hop film) e i (good .safe) (good .settings) (sound o i h q) (near-endpoint s i q) (clock-finite s i q);
+    }
+
+-- ---- along the computed answers
+-- what is shown of each
+pub record Relied (s : Settings) (m : Matcher) (a : ℕ → Answered) (n : ℕ) : Type 0 where
+  pub trusted : Trusted (s .«hop_ms») m a n
+  pub usual : unreachable (a n .snapshot .state) ≡ false
+
+module _ (s : Settings) (m : Matcher) (g : Grounds s m) (a : ℕ → Answered) where
+  next-of : (n : ℕ) (e : Engine) (i : Submission) → Inv s m a n e → New s m e i → a n ≡ answeredBy i (computedBy s m e i) → Next s m a n (computedBy s m e i .engine)
+  next-of n e i inv w q =
+      next s m a n e i (g .trimmed) inv (g .fair i (w .handed) (w .answered)) (ap (λ (x : Answered). x .submission .window) q) (w .anew) (ap (λ (x : Answered). x .snapshot) q)
+
+  -- from the answer n on, which the state e gives
+  along : (n : ℕ) (e : Engine) (A : List Answered) → Trace s m e A → ((k : ℕ) → k < length A → a (n + k) ≡ getD A k unanswered) → Inv s m a n e → (k : ℕ) → k < length A → Relied s m a (n + k)
+  along n e A end h inv k l = absurd (lt-irrefl 0 (omega arith))
+  along n e A (more {i = i} {A = B} good w rest) h inv k l =
+      let here : a n ≡ answeredBy i (computedBy s m e i) = subst (λ (j : ℕ). a j ≡ answeredBy i (computedBy s m e i)) (plus-zero n) (h 0 (omega arith)) in
+      let x : Next s m a n (computedBy s m e i .engine) = next-of n e i inv w here in
+      go k l (record { trusted = x .trusted; usual = x .usual })
+      (λ p v. along (suc n) (computedBy s m e i .engine) B rest (λ j u. subst (λ (p : ℕ). a p ≡ getD B j unanswered) (plus-suc n j) (h (suc j) (omega arith))) (x .inv) p v)
+    where
+      plus-zero : (n : ℕ) → n + 0 ≡ n
+      plus-zero n = omega arith
+
+      plus-suc : (n j : ℕ) → n + suc j ≡ suc n + j
+      plus-suc n j = omega arith
+
+      go : (k : ℕ) → k < suc (length B) → Relied s m a n → ((j : ℕ) → j < length B → Relied s m a (suc n + j)) → Relied s m a (n + k)
+      go zero l r rs = subst (λ (p : ℕ). Relied s m a p) (sym (plus-zero n)) r
+      go (suc j) l r rs = subst (λ (p : ℕ). Relied s m a p) (sym (plus-suc n j)) (rs j (omega arith))
+
+-- from the first on
+relied : (s : Settings) (m : Matcher) (g : Grounds s m) (A : List Answered) → Trace s m (freshEngine s) A → (k : ℕ) → k < length A → Relied s m (λ (j : ℕ). getD A j unanswered) k
+relied s m g A t k l =
+    let a : ℕ → Answered = λ (j : ℕ). getD A j unanswered in
+    subst (λ (p : ℕ). Relied s m a p) (zero-plus k)
+    (along s m g a 0 (freshEngine s) A t (λ j u. ap (λ (p : ℕ). getD A p unanswered) (zero-plus j)) (start s m a) k l)
+  where
+    zero-plus : (j : ℕ) → 0 + j ≡ j
+    zero-plus j = omega arith
+
+-- ---- the guarantee
+promised : (s : Settings) (m : Matcher) → Grounds s m → (l : List Submission) → AllHanded s m l → Promised (freshEngine s) m l
+unfolding freshEngine
+promised s m g l h =
+    let e = freshEngine s in
+    let good = good-fresh s m g in
+    let st = steps s m g e l good h in
+    let tr = trace s m e l (answersTo e l) st in
+    record {
+      told = told s m e l (answersTo e l) st;
+      struck = alike s m g e (remaining (answersTo e l)) tr e good (alike-self e);
+      trusted = λ i u. relied s m g (remaining (answersTo e l)) tr i u .trusted;
+    }
+
+pub guarantee : Guarantee
+guarantee c hop film x held opened l h =
+    let o : Opening c hop film x = record { held = held; opened = opened } in
+    subst (λ (e : Engine). Promised e (matcherOfFilm hop film) l) (sym (engine-is o))
+    (promised (openedSettings c hop film) (matcherOfFilm hop film) (grounds c hop film x o) l h)
+
+-- ---- no state reached is refused with 7
+seven : (s : Settings) (m : Matcher) → Grounds s m → (l : List Submission) → AllHanded s m l → (i : Submission)
+    → submissionRefusal (engineAfter (freshEngine s) l) i ≡ handedRefusal (freshEngine s .settings) i
+unfolding freshEngine
+seven s m g l h i = refusal-is s (engineAfter (freshEngine s) l) i (good-after s m g (freshEngine s) l (good-fresh s m g) h)
+
+pub never-seven : NeverSeven
+never-seven c hop film x held opened l h =
+    let o : Opening c hop film x = record { held = held; opened = opened } in
+    subst (λ (e : Engine). (i : Submission) → submissionRefusal (engineAfter e l) i ≡ handedRefusal (e .settings) i) (sym (engine-is o))
+    (seven (openedSettings c hop film) (matcherOfFilm hop film) (grounds c hop film x o) l h)
+
+-- ---- no answer is Confirmed, Ready or Drifting
+-- Each of these shows another state;
+abbrev Usual : List Answered → Type 0
+Usual A = (k : ℕ) → k < length A → unreachable (getD A k unanswered .snapshot .state) ≡ false
+
+-- or each that is not a refusal does.
+abbrev UsualUnrefused : List Answered → Type 0
+UsualUnrefused A = (k : ℕ) → k < length A → refuses (getD A k unanswered .answer) ≡ false → unreachable (getD A k unanswered .snapshot .state) ≡ false
+
+-- So does the last snapshot, which a re-reading shows.
+abbrev LastUsual : Engine → Type 0
+LastUsual e = T (isAt (e .last .«endpoint_ms»)) → unreachable (e .last .snapshot .state) ≡ false
+
+usual-with : (x : Answered) (A : List Answered) → (refuses (x .answer) ≡ false → unreachable (x .snapshot .state) ≡ false) → UsualUnrefused A → UsualUnrefused (x ∷ A)
+usual-with x A h t zero l = h
+usual-with x A h t (suc k) l = t k (omega arith)
+
+-- without an endpoint nothing is re-read
+there : (s : Settings) (p : Endpoint) (w : Window) → rereads s p w ≡ true → T (isAt p)
+there s endpoint.Absent w h = clash (sym h)
+there s (endpoint.At t) w h = tt
+
+usual-along : (s : Settings) (m : Matcher) (e : Engine) (l : List Submission) (A : List Answered) → Steps s m e l A → LastUsual e → Usual (remaining A) → UsualUnrefused A
+unfolding remaining isComputed reread computedFrom
+usual-along s m e l A stop last h = λ k u r. absurd (lt-irrefl 0 (omega arith))
+usual-along s m e l A (step {i = i} {l = j} {A = B} good (refusal q) rest) last h =
+    usual-with _ B (λ r. clash (sym q ∙ r))
+    (usual-along s m e j B rest last (rw (refusal-struck (handedRefusal s i) q) at h))
+usual-along s m e l A (step {i = i} {l = j} {A = B} good (again q p) rest) last h =
+    usual-with _ B (λ r. last (there s (e .last .«endpoint_ms») (i .window) p)) (usual-along s m e j B rest last h)
+usual-along s m e l A (step {i = i} {l = j} {A = B} good (computed n) rest) last h =
+    usual-with _ B (λ r. h 0 (omega arith))
+    (usual-along s m (computedBy s m e i .engine) j B rest (λ t. h 0 (omega arith)) (λ k u. h (suc k) (omega arith)))
+
+never-unusual : (s : Settings) (m : Matcher) → Grounds s m → (l : List Submission) → AllHanded s m l → UsualUnrefused (answersTo (freshEngine s) l)
+unfolding freshEngine
+never-unusual s m g l h =
+    let e = freshEngine s in
+    let st = steps s m g e l (good-fresh s m g) h in
+    usual-along s m e l (answersTo e l) st (λ t. absurd t) (λ k u. relied s m g (remaining (answersTo e l)) (trace s m e l (answersTo e l) st) k u .usual)
+
+pub never-confirmed : NeverConfirmed
+never-confirmed c hop film x held opened l h =
+    let o : Opening c hop film x = record { held = held; opened = opened } in
+    subst (λ (e : Engine). UsualUnrefused (answersTo e l)) (sym (engine-is o))
+    (never-unusual (openedSettings c hop film) (matcherOfFilm hop film) (grounds c hop film x o) l h)

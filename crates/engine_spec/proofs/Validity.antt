@@ -1,0 +1,344 @@
+-- What keeps the states that a fresh engine reaches from being refused with 7: every number in range, and every place's offset within 2^42. Assumes nothing.
+use mathlib.Core.Path.{_≡_, sym, subst}
+use mathlib.Core.Bool.{Bool, true, false, not, _&&_, _||_}
+use mathlib.Core.List.{List, [], _∷_}
+use Prim.Native.Nat.{_≤_}
+use native.Mathlib.Omega.{arith}
+use lib.Dec.{T, lit≤, leb, le→leb}
+use lib.Count.{trailingZeros}
+use lib.ListN.{length}
+use lib.Ieee.{Float, inf, binary64, le, lt, eq, neg, add, sum, ofBits, ofFields, odd, round, units, size, span, climb}
+use lib.Ieee.Scale.{finite}
+use Rattle.numbers.specs.Arithmetic.{_⊕_, _⊖_, zero⁺, absolute, atLeast}
+use Rattle.number_laws.specs.Values.{AtMost}
+use Rattle.number_laws.proofs.Order.{at-most-finite}
+use Rattle.number_laws.proofs.Sums.{add-at-most, sub-at-most}
+use Rattle.matcher_picks.specs.Peaks.{most}
+use Rattle.matcher_picks.specs.declared.candidates.Candidate.{Candidate}
+use Rattle.matcher.specs.Index.{Matcher}
+use Rattle.matcher.specs.Search.{wholeSearch, localSearch}
+use Rattle.matcher_laws.specs.SoundSearch.{SoundResult}
+use Rattle.matcher_laws.proofs.Bounds.{within-at-most}
+use Rattle.engine_spec.specs.Limits.{farthestMs, trackMost}
+use Rattle.engine_spec.specs.Thresholds.{samePlaceMs, supportCorrelation, supportRecent}
+use Rattle.engine_spec.specs.Windows.{Window, indexed, query, endpointOf, evidence, jumps, _after_}
+use Rattle.engine_spec.specs.Refusals.{Submission, within, near, hopInRange, validConfiguration, validSettings, trackNumber, validHypothesis, validSearchTime, validLock, validMilestone, validMilestones, validEndpoint, validEstimate, validLast, validEngine}
+use Rattle.engine_spec.specs.Opening.{noLock, noMilestones, freshEngine}
+use Rattle.engine_spec.specs.Readiness.{readiness, isNone}
+use Rattle.engine_spec.specs.Tracking.{samePlace, Tracked, mayCoast, supports, followed, tracked}
+use Rattle.engine_spec.specs.Locking.{Reached, Searched, wholeDue, passing, current, firstEvidence, holds, heldOrDropped, confirms, keptOrReplaced, passed, notPassed, wholeSearched, searched}
+use Rattle.engine_spec.specs.Publishing.{Verdict, Decision, offTrack, onTrack, verdictOf, decide, estimateAt, publish, offsetOf}
+use Rattle.engine_spec.specs.Submitting.{reachedBy, stampedOnce, stampedWithFinal, stamp, lockFrom, computedFrom}
+use Rattle.engine_spec.specs.declared.types.RecordedMs.{RecordedMs}
+use Rattle.engine_spec.specs.declared.types.ClockMs.{ClockMs}
+use Rattle.engine_spec.specs.declared.types.Settings.{Settings}
+use Rattle.engine_spec.specs.declared.types.Lock.{Lock}
+use Rattle.engine_spec.specs.declared.types.Milestones.{Milestones}
+use Rattle.engine_spec.specs.declared.types.Engine.{Engine}
+use Rattle.engine_spec.specs.declared.types.Maybe.{Maybe}
+use Rattle.engine_spec.specs.declared.types.Maybe.the-variants as maybe
+use Rattle.engine_spec.specs.declared.types.Milestone.{Milestone}
+use Rattle.engine_spec.specs.declared.types.Milestone.the-variants as milestone
+use Rattle.engine_spec.specs.declared.types.Hypothesis.{Hypothesis}
+use Rattle.engine_spec.specs.declared.types.Hypothesis.the-variants as hypothesis
+use Rattle.engine_spec.specs.declared.types.WithholdReason.{WithholdReason}
+use Rattle.engine_spec.specs.declared.types.WithholdReason.the-variants as reason
+use Rattle.engine_spec.proofs.Effects.{Sound}
+use Rattle.engine_spec.proofs.Tests.{cond-elim, and-l, and-r, and-i, or-l, not-not, T-is}
+use Rattle.engine_spec.proofs.EvidenceBound.{bounded, in-range, at-most-wider, farthest-finite, track-most-finite, evidence-bound}
+use Rattle.engine_spec.proofs.MovedBound.{foundMost, placeMost, moved-at-most, since-finite, since-not-negative}
+
+-- ---- what is kept of a state
+-- A place: its offset within 2^42, its other numbers within 10^13.
+pub data Bounded : Hypothesis → Type 0 where
+  none : Bounded hypothesis.Absent
+  held : {o : Float} {f l : RecordedMs} {c : Float} → AtMost placeMost o → AtMost trackMost (f .0) → AtMost trackMost (l .0) → AtMost trackMost c → Bounded (hypothesis.Held o f l c)
+
+pub record LockBounds (l : Lock) : Type 0 where
+  pub pending : Bounded (l .pending)
+  pub accepted : Bounded (l .accepted)
+  pub time : T (validSearchTime (l .«last_global_search_ms»))
+
+-- The range of a valid state, 10^13, is too wide for an offset: a snapshot shows it added to the endpoint, and holds the sum to the same range.
+pub record Safe (e : Engine) : Type 0 where
+  pub settings : validSettings (e .settings) ≡ true
+  pub lock : LockBounds (e .lock)
+  pub milestones : T (validMilestones (e .milestones))
+  pub last : T (validLast (e .last))
+
+-- ---- such a state is valid
+within-T : (l x : Float) → AtMost l x → T (within l x)
+within-T l x h = subst T (sym (in-range l x h)) tt
+
+place-track : T (le placeMost trackMost)
+unfolding le lt eq ofBits ofFields odd trailingZeros
+place-track = tt
+
+place-valid : (h : Hypothesis) → Bounded h → T (validHypothesis h)
+unfolding validHypothesis
+place-valid hypothesis.Absent none = tt
+place-valid (hypothesis.Held o f l c) (held O F L C) =
+    and-i (trackNumber o) _ (within-T trackMost o (at-most-wider placeMost trackMost o place-track O))
+    (and-i (trackNumber (f .0)) _ (within-T trackMost (f .0) F) (and-i (trackNumber (l .0)) (trackNumber c) (within-T trackMost (l .0) L) (within-T trackMost c C)))
+
+lock-valid : (l : Lock) → LockBounds l → T (validLock l)
+unfolding validLock
+lock-valid l b =
+    and-i (validHypothesis (l .pending)) _ (place-valid (l .pending) (b .pending))
+    (and-i (validHypothesis (l .accepted)) (validSearchTime (l .«last_global_search_ms»)) (place-valid (l .accepted) (b .accepted)) (b .time))
+
+pub safe-valid : (e : Engine) → Safe e → validEngine e ≡ true
+unfolding validEngine
+safe-valid e k =
+    T-is _
+    (and-i (validSettings (e .settings)) _ (subst T (sym (k .settings)) tt)
+    (and-i (validLock (e .lock)) _ (lock-valid (e .lock) (k .lock)) (and-i (validMilestones (e .milestones)) (validLast (e .last)) (k .milestones) (k .last))))
+
+-- ---- a fresh engine
+-- minus infinity, as noLock has it
+no-search : T (validSearchTime (record { 0 = inf true }))
+unfolding le lt eq neg ofBits ofFields odd trailingZeros
+no-search = tt
+
+no-lock : LockBounds noLock
+no-lock = record { pending = none; accepted = none; time = no-search }
+
+no-milestones : T (validMilestones noMilestones)
+unfolding validMilestones validMilestone
+no-milestones = tt
+
+pub safe-fresh : (s : Settings) → validSettings s ≡ true → Safe (freshEngine s)
+unfolding freshEngine
+safe-fresh s h = record { settings = h; lock = no-lock; milestones = no-milestones; last = unfold validLast validEndpoint in tt }
+
+pub valid-fresh : (s : Settings) → validSettings s ≡ true → validEngine (freshEngine s) ≡ true
+valid-fresh s h = safe-valid (freshEngine s) (safe-fresh s h)
+
+-- ---- what a search finds
+record Best (c : Candidate) : Type 0 where
+  offset : AtMost foundMost (c .«offset_ms»)
+  score : AtMost trackMost (c .score)
+
+best-of : (c : Candidate) (l : List Candidate) → SoundResult (c ∷ l) → Best c
+best-of c l r = record { offset = within-at-most 1 41 (c .«offset_ms») (r .sound 0 (omega arith) .offset); score = r .modest 0 (omega arith) .score .at-most }
+
+best-place : (c : Candidate) → Best c → AtMost placeMost (c .«offset_ms»)
+best-place c b = at-most-wider foundMost placeMost (c .«offset_ms») (unfold le lt eq in tt) (b .offset)
+
+-- ---- the searches of one window, whose evidence time is in range
+record TrackedWell (t : Tracked) : Type 0 where
+  accepted : Bounded (t .accepted)
+  few : length (t .found) ≤ most
+
+record SearchedWell (x : Searched) : Type 0 where
+  lock : LockBounds (x .lock)
+  few : length (x .found) ≤ most
+
+since-bound : T (finite (trackMost ⊕ trackMost))
+unfolding add sum round units size span climb ofBits ofFields odd trailingZeros
+since-bound = tt
+
+place-finite : (x : Float) → AtMost placeMost x → T (finite x)
+place-finite x h = at-most-finite placeMost x tt h
+
+-- so is the time between two such
+after-finite : (now last : RecordedMs) → AtMost trackMost (now .0) → AtMost trackMost (last .0) → T (finite (now after last))
+after-finite now last N L = at-most-finite (trackMost ⊕ trackMost) (now after last) since-bound (sub-at-most binary64 (now .0) (last .0) trackMost trackMost track-most-finite track-most-finite N L)
+
+supports-place : (offset : Float) (best : Candidate) → T (supports offset best) → T (samePlace (best .«offset_ms») offset)
+unfolding supports
+supports-place offset best t = and-r (le supportRecent (best .«recent_score»)) _ (and-r (le supportCorrelation (best .score)) _ t)
+
+module _ (now : RecordedMs) (N : AtMost trackMost (now .0)) where
+  begun : (c : Candidate) → Best c → Bounded (hypothesis.Held (c .«offset_ms») now now (c .score))
+  begun c b = held (best-place c b) N N (b .score)
+
+  -- A local search moves the track, or leaves it.
+  followed-well : (o : Float) (f l : RecordedMs) (c : Float) → Bounded (hypothesis.Held o f l c) → (found : List Candidate) → SoundResult found → TrackedWell (followed o f l c now found)
+  unfolding followed
+  followed-well o f l c h [] r = record { accepted = h; few = r .few }
+  followed-well o f l c (held O F L C) (best ∷ rest) r =
+      cond-elim TrackedWell (supports o best) _ _
+      (λ t. record {
+        accepted = held
+            (moved-at-most best o (atLeast zero⁺ (now after l)) (best-of best rest r .offset) (place-finite o O) (supports-place o best t) (since-finite (now after l) (after-finite now l N L)) (since-not-negative (now after l)))
+            F N (best-of best rest r .score);
+        few = r .few;
+      })
+      (λ t. record { accepted = held O F L C; few = r .few })
+
+  -- Pending's first evidence, carried on or begun.
+  first-bound : (p : Hypothesis) (offset : Float) → Bounded p → AtMost trackMost (firstEvidence p offset now .0)
+  unfolding firstEvidence
+  first-bound hypothesis.Absent offset h = N
+  first-bound (hypothesis.Held old first last correlation) offset (held O F L C) =
+      cond-elim (λ (t : RecordedMs). AtMost trackMost (t .0)) (samePlace old offset && current now last) first now (λ t. F) (λ t. N)
+
+  held-or-dropped : (p : Hypothesis) (found : List Candidate) → Bounded p → Bounded (heldOrDropped p found now)
+  unfolding heldOrDropped
+  held-or-dropped hypothesis.Absent found h = none
+  held-or-dropped (hypothesis.Held o f l c) found h = cond-elim Bounded (holds o l found now) (hypothesis.Held o f l c) hypothesis.Absent (λ t. h) (λ t. none)
+
+  kept-or-replaced : (h : Hypothesis) (supported : Bool) (best : Candidate) → Bounded h → Best best → Bounded (keptOrReplaced h supported best now)
+  unfolding keptOrReplaced
+  kept-or-replaced hypothesis.Absent supported best h b = begun best b
+  kept-or-replaced (hypothesis.Held o f l c) supported best h b =
+      cond-elim Bounded (lt samePlaceMs (absolute (o ⊖ best .«offset_ms»)) || not supported) _ (hypothesis.Held o f l c) (λ t. begun best b) (λ t. h)
+
+-- A window whose searches are sound.
+module _ (m : Matcher) (hop : Float) (w : Window) (N : AtMost trackMost (evidence hop w .0)) (near-end : T (near (endpointOf w .0))) where
+  end-time : T (validSearchTime (endpointOf w))
+  end-time = or-l (near (endpointOf w .0)) (eq (endpointOf w .0) (inf true)) near-end
+
+  tracked-well : (h : Hypothesis) → Bounded h → ((lower upper : Float) → SoundResult (localSearch (m .reference) (m .fine) (query w) lower upper)) → TrackedWell (tracked m hop w h)
+  unfolding tracked
+  tracked-well hypothesis.Absent h r = record { accepted = none; few = lit≤ tt }
+  tracked-well (hypothesis.Held o f l c) h r =
+      cond-elim TrackedWell (mayCoast (evidence hop w) l) _ _
+      (λ t. followed-well (evidence hop w) N o f l c h _ (r _ _))
+      (λ t. record { accepted = none; few = lit≤ tt })
+
+  passed-well : (k : Reached) (first : RecordedMs) (t : Tracked) (best : Candidate) (rest : List Candidate) → AtMost trackMost (first .0) → TrackedWell t → SoundResult (best ∷ rest) → SearchedWell (passed hop w k first t best rest)
+  unfolding passed
+  passed-well k first t best rest F τ r =
+      let b = best-of best rest r in
+      let pending = held (best-place best b) F N (b .score) in
+      cond-elim SearchedWell (confirms hop first (evidence hop w) best) _ _
+      (λ u. record { lock = record { pending = pending; accepted = kept-or-replaced (evidence hop w) N (t .accepted) (t .supported) best (τ .accepted) b; time = end-time }; few = r .few })
+      (λ u. record { lock = record { pending = pending; accepted = τ .accepted; time = end-time }; few = r .few })
+
+  not-passed-well : (k : Reached) (p : Hypothesis) (t : Tracked) (found : List Candidate) → Bounded p → TrackedWell t → SoundResult found → SearchedWell (notPassed hop w k p t found)
+  not-passed-well k p t found h τ r = record { lock = record { pending = held-or-dropped (evidence hop w) N p found h; accepted = τ .accepted; time = end-time }; few = r .few }
+
+  whole-well : (k : Reached) (p : Hypothesis) (t : Tracked) (found : List Candidate) → Bounded p → TrackedWell t → SoundResult found → SearchedWell (wholeSearched hop w k p t found)
+  unfolding wholeSearched
+  whole-well k p t [] h τ r = not-passed-well k p t [] h τ r
+  whole-well k p t (best ∷ rest) h τ r =
+      cond-elim SearchedWell (passing (best ∷ rest)) _ _
+      (λ u. passed-well k _ t best rest (first-bound (evidence hop w) N p (best .«offset_ms») h) τ r)
+      (λ u. not-passed-well k p t (best ∷ rest) h τ r)
+
+  searched-well : (k : Reached) (l : Lock) → LockBounds l → SoundResult (wholeSearch m (query w)) → ((lower upper : Float) → SoundResult (localSearch (m .reference) (m .fine) (query w) lower upper))
+      → SearchedWell (searched m hop w k l)
+  unfolding searched
+  searched-well k l b whole local =
+      let t = tracked-well (l .accepted) (b .accepted) local in
+      cond-elim SearchedWell (wholeDue (tracked m hop w (l .accepted) .supported) (endpointOf w) (l .«last_global_search_ms»)) _ _
+      (λ u. whole-well k (l .pending) _ (wholeSearch m (query w)) (b .pending) t whole)
+      (λ u. record { lock = record { pending = b .pending; accepted = t .accepted; time = b .time }; few = t .few })
+
+-- ---- the decision
+-- The offset shown.
+data Offset : Maybe → Type 0 where
+  none : Offset maybe.Absent
+  shown : {o : Float} → AtMost placeMost o → Offset (maybe.Is o)
+
+offset-of : (h : Hypothesis) → Bounded h → Offset (offsetOf h)
+offset-of hypothesis.Absent h = none
+offset-of (hypothesis.Held o f l c) (held O F L C) = shown O
+
+off-track : (x : Searched) → LockBounds (x .lock) → Offset (offTrack x .offset)
+off-track x b = cond-elim Offset (x .reached .confirmed) maybe.Absent (offsetOf (x .lock .pending)) (λ t. none) (λ t. offset-of (x .lock .pending) (b .pending))
+
+verdict-offset : (h : Hypothesis) (now : RecordedMs) (x : Searched) → Bounded h → LockBounds (x .lock) → Offset (verdictOf h now x .offset)
+unfolding verdictOf
+verdict-offset hypothesis.Absent now x h b = off-track x b
+verdict-offset (hypothesis.Held o f l c) now x (held O F L C) b =
+    cond-elim (λ (v : Verdict). Offset (v .offset)) (mayCoast now l) (onTrack x o (now after l)) (offTrack x) (λ t. shown O) (λ t. off-track x b)
+
+record DecisionWell (d : Decision) : Type 0 where
+  lock : LockBounds (d .lock)
+  few : length (d .found) ≤ most
+  offset : Offset (d .verdict .offset)
+
+-- Without index no window is ready.
+ready-indexed : (s : Settings) (confirmed : Bool) (w : Window) → T (isNone (readiness s confirmed w)) → T (indexed s)
+unfolding readiness isNone
+ready-indexed s confirmed w = cond-elim (λ (r : WithholdReason). T (isNone r) → T (indexed s)) (not (indexed s)) reason.IndexUnavailable _ (λ t h. absurd h) (λ t h. not-not (indexed s) t)
+
+decide-well : (s : Settings) (m : Matcher) (w : Window) (k : Reached) (l : Lock) → AtMost trackMost (evidence (s .«hop_ms») w .0) → T (near (endpointOf w .0)) → LockBounds l → Sound s m w → DecisionWell (decide s m w k l)
+unfolding decide
+decide-well s m w k l N n b sound =
+    cond-elim DecisionWell (isNone (readiness s (k .confirmed) w)) _ _
+    (λ t.
+    let x = ready-indexed s (k .confirmed) w t in
+    let y = searched-well m (s .«hop_ms») w N n k l b (sound .whole x) (sound .near x) in
+    record { lock = y .lock; few = y .few; offset = verdict-offset _ (evidence (s .«hop_ms») w) _ (y .lock .accepted) (y .lock) })
+    (λ t. record { lock = record { pending = none; accepted = none; time = b .time }; few = lit≤ tt; offset = none })
+
+-- ---- what the state holds after it
+far-track : T (le farthestMs trackMost)
+unfolding le lt eq ofBits ofFields odd trailingZeros
+far-track = tt
+
+-- 10^12 + 2^42 is below 10^13
+estimate-room : T (le (farthestMs ⊕ placeMost) trackMost)
+unfolding le lt eq add sum round units size span climb ofBits ofFields odd trailingZeros
+estimate-room = tt
+
+estimate-valid : (w : Window) → AtMost farthestMs (endpointOf w .0) → (o : Maybe) → Offset o → T (validEstimate (estimateAt w o))
+unfolding validEstimate
+estimate-valid w n maybe.Absent none = tt
+estimate-valid w n (maybe.Is o) (shown O) =
+    let end = endpointOf w .0 in
+    and-i (trackNumber end) _ (within-T trackMost end (at-most-wider farthestMs trackMost end far-track n))
+    (and-i (trackNumber (end ⊕ o)) (trackNumber o)
+    (within-T trackMost (end ⊕ o) (at-most-wider (farthestMs ⊕ placeMost) trackMost (end ⊕ o) estimate-room (add-at-most binary64 end o farthestMs placeMost farthest-finite tt n O)))
+    (within-T trackMost o (at-most-wider placeMost trackMost o place-track O)))
+
+stamped-once : (b : Bool) (old : Milestone) (clock : ClockMs) → T (validMilestone old) → T (finite (clock .0)) → T (validMilestone (stampedOnce b old clock))
+unfolding validMilestone
+stamped-once false old clock h c = h
+stamped-once true milestone.Absent clock h c = c
+stamped-once true (milestone.At t) clock h c = h
+
+stamped-with-final : (b : Bool) (final old : Milestone) (clock : ClockMs) → T (validMilestone old) → T (finite (clock .0)) → T (validMilestone (stampedWithFinal b final old clock))
+unfolding validMilestone
+stamped-with-final false final old clock h c = h
+stamped-with-final true milestone.Absent old clock h c = c
+stamped-with-final true (milestone.At t) old clock h c = h
+
+stamp-valid : (m : Milestones) (k : Reached) (clock : ClockMs) → T (validMilestones m) → T (finite (clock .0)) → T (validMilestones (stamp m k clock))
+unfolding validMilestones stamp
+stamp-valid m k clock h c =
+    let first = and-l (validMilestone (m .«first_provisional_ms»)) _ h in
+    let rest = and-r (validMilestone (m .«first_provisional_ms»)) _ h in
+    let confirmed = and-l (validMilestone (m .«confirmed_ms»)) (validMilestone (m .«final_ms»)) rest in
+    let final = and-r (validMilestone (m .«confirmed_ms»)) (validMilestone (m .«final_ms»)) rest in
+    and-i (validMilestone (stampedOnce (k .provisional) (m .«first_provisional_ms») clock)) _ (stamped-once (k .provisional) (m .«first_provisional_ms») clock first c)
+    (and-i (validMilestone (stampedWithFinal (k .final) (m .«final_ms») (m .«confirmed_ms») clock)) (validMilestone (stampedOnce (k .final) (m .«final_ms») clock))
+    (stamped-with-final (k .final) (m .«final_ms») (m .«confirmed_ms») clock confirmed c) (stamped-once (k .final) (m .«final_ms») clock final c))
+
+computed-safe : (e : Engine) (i : Submission) (d : Decision) → Safe e → T (near (endpointOf (i .window) .0)) → T (finite (i .clock .0)) → DecisionWell d → Safe (computedFrom e i d .engine)
+unfolding computedFrom publish
+computed-safe e i d k n c y = record {
+  settings = k .settings;
+  lock = y .lock;
+  milestones = stamp-valid (e .milestones) (d .reached) (i .clock) (k .milestones) c;
+  last =
+      unfold validLast validEndpoint in
+      and-i (near (endpointOf (i .window) .0)) _ n
+      (and-i (leb (length (d .found)) most) _ (le→leb (length (d .found)) most (y .few)) (estimate-valid (i .window) (bounded farthestMs _ (T-is _ n)) (d .verdict .offset) (y .offset)));
+}
+
+-- ---- one step
+hop-valid : (s : Settings) → validSettings s ≡ true → hopInRange (s .«hop_ms») ≡ true
+unfolding validSettings
+hop-valid s h = T-is _ (and-l (hopInRange (s .«hop_ms»)) _ (and-r (validConfiguration (s .configuration)) _ (subst T (sym h) tt)))
+
+-- What a jump leaves is safe too.
+lock-from : (e : Engine) (w : Window) → Safe e → LockBounds (lockFrom e w)
+lock-from e w k = cond-elim LockBounds (jumps (e .settings) (e .last .«endpoint_ms») w) noLock (e .lock) (λ t. no-lock) (λ t. k .lock)
+
+pub safe-next : (s : Settings) (m : Matcher) (e : Engine) (i : Submission) → Safe e → e .settings ≡ s → Sound s m (i .window) → near (endpointOf (i .window) .0) ≡ true → T (finite (i .clock .0))
+    → let d = decide s m (i .window) (reachedBy (e .milestones)) (lockFrom e (i .window)) in Safe (computedFrom e i d .engine)
+safe-next s m e i k q sound n c =
+    let w = i .window in
+    let hop = hop-valid s (subst (λ (x : Settings). validSettings x ≡ true) q (k .settings)) in
+    let N = bounded trackMost (evidence (s .«hop_ms») w .0) (evidence-bound (s .«hop_ms») w hop n .1) in
+    let t : T (near (endpointOf w .0)) = subst T (sym n) tt in
+    computed-safe e i _ k t c (decide-well s m w (reachedBy (e .milestones)) (lockFrom e w) N t (lock-from e w k) sound)
+
+pub valid-next : (s : Settings) (m : Matcher) (e : Engine) (i : Submission) → Safe e → e .settings ≡ s → Sound s m (i .window) → near (endpointOf (i .window) .0) ≡ true → T (finite (i .clock .0))
+    → let d = decide s m (i .window) (reachedBy (e .milestones)) (lockFrom e (i .window)) in validEngine (computedFrom e i d .engine) ≡ true
+valid-next s m e i k q sound n c = safe-valid _ (safe-next s m e i k q sound n c)

@@ -1,0 +1,17 @@
+pub mod Thresholds
+pub mod Limits
+pub mod Windows
+pub mod Refusals
+pub mod Opening
+pub mod Readiness
+pub mod Tracking
+pub mod Locking
+pub mod Publishing
+pub mod Submitting
+pub mod SupportAge
+pub mod Chain
+pub mod Guarantee
+pub mod Reached
+pub mod Figures
+pub mod Lent
+pub mod Room

@@ -1,0 +1,144 @@
+-- Opening (document 01, "What each operation refuses"; engine.rs, `Engine::new`). Definitions only.
+use mathlib.Core.Bool.{Bool, true, false, cond, not, _&&_}
+use lib.ListN.{length, getD, replicate}
+use lib.Ieee.{Float, nan, inf}
+use Rattle.numbers.specs.Arithmetic.{zero⁺}
+use Rattle.matcher_picks.specs.Peaks.{most}
+use Rattle.matcher.specs.Index.{Matcher, acceptsReference, matcherOf, filled}
+use Rattle.engine_spec.specs.Windows.{Soundtrack, Index}
+use Rattle.engine_spec.specs.Refusals.{refuses, openingRefusal}
+use Rattle.engine_spec.specs.declared.types.Configuration.{Configuration}
+use Rattle.engine_spec.specs.declared.types.Settings.{Settings}
+use Rattle.engine_spec.specs.declared.types.Lock.{Lock}
+use Rattle.engine_spec.specs.declared.types.Milestones.{Milestones}
+use Rattle.engine_spec.specs.declared.types.CandidateDiagnostics.{CandidateDiagnostics}
+use Rattle.engine_spec.specs.declared.types.Snapshot.{Snapshot}
+use Rattle.engine_spec.specs.declared.types.Engine.{Engine}
+use Rattle.engine_spec.specs.declared.types.Opened.{Opened}
+use Rattle.engine_spec.specs.declared.types.Milestone.the-variants as milestone
+use Rattle.engine_spec.specs.declared.types.Hypothesis.the-variants as hypothesis
+use Rattle.engine_spec.specs.declared.types.Endpoint.the-variants as endpoint
+use Rattle.engine_spec.specs.declared.types.Estimate.the-variants as estimate
+use Rattle.engine_spec.specs.declared.types.Maybe.the-variants as maybe
+use Rattle.engine_spec.specs.declared.types.State.the-variants as state
+use Rattle.engine_spec.specs.declared.types.LockPhase.the-variants as phase
+use Rattle.engine_spec.specs.declared.types.Stage.the-variants as stage
+use Rattle.engine_spec.specs.declared.types.WithholdReason.the-variants as reason
+
+-- ---- nothing yet
+-- No place, and no whole search: also what a jump leaves (document 01).
+abbrev pub noLock : Lock
+noLock = record { pending = hypothesis.Absent; accepted = hypothesis.Absent; «last_global_search_ms» = record { 0 = inf true } }
+
+abbrev pub noMilestones : Milestones
+noMilestones = record { «first_provisional_ms» = milestone.Absent; «confirmed_ms» = milestone.Absent; «final_ms» = milestone.Absent }
+
+-- What stands behind the last candidate of a snapshot.
+abbrev pub blankCandidate : CandidateDiagnostics
+blankCandidate = record { «offset_ms» = zero⁺; «coarse_offset_ms» = zero⁺; «comparable_frame_count» = 0; «coverage_ratio» = zero⁺; «combined_dense_score» = zero⁺ }
+
+-- A snapshot of nothing, where a value has to stand and there is no snapshot.
+unfoldable pub blankSnapshot : Snapshot
+blankSnapshot = record {
+  state = state.Ready;
+  phase = phase.None;
+  stage = stage.Readiness;
+  estimate = estimate.Absent;
+  «withhold_reason» = reason.None;
+  confidence = zero⁺;
+  diagnostics = record {
+    «query_duration_ms» = zero⁺;
+    «active_frame_fraction» = zero⁺;
+    «coarse_ambiguous» = false;
+    «dense_margin» = zero⁺;
+    «offset_stability_ms» = maybe.Absent;
+    «track_innovation_ms» = maybe.Absent;
+    «track_count» = 0;
+    «offset_tracker_confirmed» = false;
+    «offset_tracker_stable» = false;
+    «candidate_count» = 0;
+    candidates = replicate most blankCandidate;
+    spectral = record {
+      «global_search» = false;
+      correlation = zero⁺;
+      «competing_peak_margin» = maybe.Absent;
+      «first_half_correlation» = zero⁺;
+      «second_half_correlation» = zero⁺;
+      «recent_correlation» = zero⁺;
+      «fresh_evidence_ms» = zero⁺;
+      «coast_ms» = zero⁺;
+    };
+  };
+  milestones = noMilestones;
+}
+
+-- ---- the engine
+-- A fresh engine: no endpoint, snapshot, place or milestone.
+unfoldable pub freshEngine : Settings → Engine
+freshEngine s = record {
+  settings = s;
+  lock = noLock;
+  milestones = noMilestones;
+  last = record { «endpoint_ms» = endpoint.Absent; «has_snapshot» = false; snapshot = blankSnapshot };
+}
+
+-- With index: the reference's counts and start.
+abbrev pub withIndex : Configuration → Float → Soundtrack → Settings
+withIndex c hop film = record {
+  configuration = c;
+  «hop_ms» = hop;
+  «reference_frames» = length (film .times);
+  «reference_bands» = film .bands;
+  «reference_start_ms» = record { 0 = getD (film .times) 0 nan };
+}
+
+-- Without: counts and start are 0.
+abbrev pub withoutIndex : Configuration → Float → Settings
+withoutIndex c hop = record { configuration = c; «hop_ms» = hop; «reference_frames» = 0; «reference_bands» = 0; «reference_start_ms» = record { 0 = zero⁺ } }
+
+-- Whether `SpectralMatcher::new` accepts the reference.
+abbrev pub acceptsFilm : Float → Soundtrack → Bool
+acceptsFilm hop film = acceptsReference hop (film .bands) (film .times) (film .values)
+
+abbrev pub openedSettings : Configuration → Float → Soundtrack → Settings
+openedSettings c hop film = cond (acceptsFilm hop film) (withIndex c hop film) (withoutIndex c hop)
+
+-- No engine: one with hop 0, which every submission refuses with 7.
+unfoldable pub noEngine : Engine
+noEngine =
+    freshEngine
+    (withoutIndex
+    (record {
+      «minimum_readiness_duration_ms» = zero⁺;
+      «tracking_query_duration_ms» = zero⁺;
+      «minimum_active_frame_energy_dbfs» = zero⁺;
+      «minimum_average_energy_dbfs» = zero⁺;
+      «minimum_active_frame_fraction» = zero⁺;
+    })
+    zero⁺)
+
+-- ---- opening
+unfoldable pub opening : Configuration → Float → Soundtrack → Index → Opened
+opening c hop film x =
+    let r = openingRefusal c hop film x in
+    record { answer = r; engine = cond (refuses r) noEngine (freshEngine (openedSettings c hop film)) }
+
+-- Whether the index is filled: not where opening is refused, and not where the reference is rejected.
+unfoldable pub fills : Configuration → Float → Soundtrack → Index → Bool
+fills c hop film x = not (refuses (openingRefusal c hop film x)) && acceptsFilm hop film
+
+-- The matcher of a reference: what opening fills in.
+abbrev pub matcherOfFilm : Float → Soundtrack → Matcher
+matcherOfFilm hop film = matcherOf hop (film .bands) (film .times) (film .values)
+
+-- What the four buffers hold after opening: the filled part and the old tail, or all as it was.
+unfoldable pub openedIndex : Configuration → Float → Soundtrack → Index → Index
+openedIndex c hop film x =
+    let yes = fills c hop film x in
+    let m = matcherOfFilm hop film in
+    record {
+      fine = filled yes (m .fine .values) (x .fine);
+      coarse = filled yes (m .coarse .values) (x .coarse);
+      fineSquares = filled yes (m .fine .squares) (x .fineSquares);
+      coarseSquares = filled yes (m .coarse .squares) (x .coarseSquares);
+    }

@@ -1,0 +1,65 @@
+-- Readiness: why a window cannot be searched (document 01, Engine; engine.rs, `process`). Definitions only.
+use Prim.Native.Nat.{ℕ, zero, suc}
+use mathlib.Core.Bool.{Bool, true, false, cond, not}
+use lib.ListN.{length, getD}
+use lib.Ieee.{Float, nan, inf, lt, le}
+use Rattle.numbers.specs.Arithmetic.{_⊖_, _⊗_, _⊘_, zero⁺, atMost, real}
+use Rattle.numbers.specs.Exponential.{tenTo}
+use Rattle.numbers.specs.Logarithm.{log10Of}
+use Rattle.matcher_bands.specs.Rows.{sumTo}
+use Rattle.engine_spec.specs.Thresholds.{ten}
+use Rattle.engine_spec.specs.Windows.{Window, indexed, acceptsTimeline, duration}
+use Rattle.engine_spec.specs.declared.types.Configuration.{Configuration}
+use Rattle.engine_spec.specs.declared.types.Settings.{Settings}
+use Rattle.engine_spec.specs.declared.types.WithholdReason.{WithholdReason}
+use Rattle.engine_spec.specs.declared.types.WithholdReason.the-variants as reason
+
+-- ---- how loud a window is
+-- For how many of 0, 1, .. n - 1 p holds.
+unfoldable pub tally : (ℕ → Bool) → ℕ → ℕ
+tally p zero = 0
+tally p (suc n) = cond (p n) (suc (tally p n)) (tally p n)
+
+-- The part of the frames whose energy reaches the threshold.
+unfoldable pub activeFraction : Configuration → Window → Float
+activeFraction c w = real (tally (λ (i : ℕ). le (c .«minimum_active_frame_energy_dbfs») (getD (w .energies) i nan)) (length (w .times))) ⊘ real (length (w .times))
+
+-- The mean of the powers 10^(energy / 10).
+unfoldable pub meanPower : Window → Float
+meanPower w = sumTo (λ (i : ℕ). tenTo (getD (w .energies) i nan ⊘ ten)) (length (w .times)) ⊘ real (length (w .times))
+
+-- As an energy again; minus infinity where there is no power.
+unfoldable pub averageEnergy : Window → Float
+averageEnergy w = cond (lt zero⁺ (meanPower w)) (ten ⊗ log10Of (meanPower w)) (inf true)
+
+-- ---- how long it has to be
+-- Once confirmed, the shorter of the readiness duration and the tracking duration less a hop.
+abbrev pub minimumDuration : Settings → Bool → Float
+minimumDuration s confirmed =
+    let c = s .configuration in
+    cond confirmed (atMost (c .«minimum_readiness_duration_ms») (c .«tracking_query_duration_ms» ⊖ s .«hop_ms»)) (c .«minimum_readiness_duration_ms»)
+
+-- ---- the reasons, tried in this order
+unfoldable pub readiness : Settings → Bool → Window → WithholdReason
+readiness s confirmed w =
+    let c = s .configuration in
+    cond (not (indexed s)) reason.IndexUnavailable
+    (cond (lt (duration w) (minimumDuration s confirmed)) reason.InsufficientDuration
+    (cond (not (acceptsTimeline s w)) reason.LostSignal
+    (cond (lt (averageEnergy w) (c .«minimum_average_energy_dbfs»)) reason.InsufficientEnergy
+    (cond (lt (activeFraction c w) (c .«minimum_active_frame_fraction»)) reason.InsufficientActiveFrames
+    reason.None))))
+
+-- No reason to withhold.
+unfoldable pub isNone : WithholdReason → Bool
+isNone reason.None = true
+isNone reason.InsufficientDuration = false
+isNone reason.InsufficientEnergy = false
+isNone reason.InsufficientActiveFrames = false
+isNone reason.InsufficientLandmarkEvidence = false
+isNone reason.WeakAlignmentPeak = false
+isNone reason.AmbiguousOffset = false
+isNone reason.UnstableTrackingResidual = false
+isNone reason.LostSignal = false
+isNone reason.DecodeFailed = false
+isNone reason.IndexUnavailable = false

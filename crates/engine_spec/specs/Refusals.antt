@@ -1,0 +1,204 @@
+-- What each operation refuses, and with which number (document 01, "What each operation refuses"). Definitions only.
+use Prim.Native.Nat.{ℕ, _+_, _*_, _/_}
+use mathlib.Core.Bool.{Bool, true, false, cond, not, _&&_, _||_}
+use mathlib.Core.List.{List}
+use lib.Dec.{leb, ltb, eqb}
+use lib.ListN.{length, getD}
+use lib.Ieee.{Float, nan, inf, lt, le, eq, neg}
+use lib.Ieee.Scale.{finite}
+use Rattle.numbers.specs.Arithmetic.{zero⁺, one}
+use Rattle.matcher_bands.specs.Rows.{allTo}
+use Rattle.matcher_bands.specs.Timeline.{validValues}
+use Rattle.matcher_bands.specs.Energy.{reduction}
+use Rattle.matcher_picks.specs.Peaks.{most}
+use Rattle.engine_spec.specs.Limits.{hopLeast, hopMost, framesMost, windowMost, bandsMost, farthestMs, trackMost}
+use Rattle.engine_spec.specs.Windows.{Soundtrack, Index, Window}
+use Rattle.engine_spec.specs.declared.types.RecordedMs.{RecordedMs}
+use Rattle.engine_spec.specs.declared.types.ClockMs.{ClockMs}
+use Rattle.engine_spec.specs.declared.types.Configuration.{Configuration}
+use Rattle.engine_spec.specs.declared.types.Settings.{Settings}
+use Rattle.engine_spec.specs.declared.types.Lock.{Lock}
+use Rattle.engine_spec.specs.declared.types.Milestones.{Milestones}
+use Rattle.engine_spec.specs.declared.types.Last.{Last}
+use Rattle.engine_spec.specs.declared.types.Engine.{Engine}
+use Rattle.engine_spec.specs.declared.types.Milestone.{Milestone}
+use Rattle.engine_spec.specs.declared.types.Milestone.the-variants as milestone
+use Rattle.engine_spec.specs.declared.types.Hypothesis.{Hypothesis}
+use Rattle.engine_spec.specs.declared.types.Hypothesis.the-variants as hypothesis
+use Rattle.engine_spec.specs.declared.types.Endpoint.{Endpoint}
+use Rattle.engine_spec.specs.declared.types.Endpoint.the-variants as endpoint
+use Rattle.engine_spec.specs.declared.types.Estimate.{Estimate}
+use Rattle.engine_spec.specs.declared.types.Estimate.the-variants as estimate
+use Rattle.engine_spec.specs.declared.types.Answer.{Answer}
+use Rattle.engine_spec.specs.declared.types.Answer.the-variants as answer
+
+-- ---- the numbers
+unfoldable pub numberOf : Answer → ℕ
+numberOf answer.Opened = 0
+numberOf answer.Computed = 0
+numberOf answer.Reread = 0
+numberOf answer.InvalidConfiguration = 1
+numberOf answer.HopOutOfRange = 2
+numberOf answer.ReferenceTooLarge = 3
+numberOf answer.ReferenceMiscounted = 4
+numberOf answer.ReferenceTimeTooFar = 5
+numberOf answer.IndexTooShort = 6
+numberOf answer.StateOutOfRange = 7
+numberOf answer.ClockNotFinite = 8
+numberOf answer.NoFrames = 9
+numberOf answer.WindowTooLarge = 10
+numberOf answer.WindowInvalid = 11
+numberOf answer.WindowTimeOutOfRange = 12
+numberOf answer.WorkTooShort = 13
+
+abbrev pub refuses : Answer → Bool
+refuses a = ltb 0 (numberOf a)
+
+-- The refusal where the test fails, else what comes after it.
+abbrev pub unless : Bool → Answer → Answer → Answer
+unless test refusal rest = cond test rest refusal
+
+-- ---- ranges
+-- -l ≤ x ≤ l; a NaN is not.
+abbrev pub within : Float → Float → Bool
+within l x = le (neg l) x && le x l
+
+-- A time that is finite and within ±10^12.
+abbrev pub near : Float → Bool
+near t = within farthestMs t
+
+-- Every number of the list passes.
+unfoldable pub every : (Float → Bool) → List Float → Bool
+every p l = allTo (λ (i : ℕ). p (getD l i nan)) (length l)
+
+-- ---- 1: `Configuration::validate`
+abbrev pub validDuration : Float → Bool
+validDuration d = finite d && lt zero⁺ d
+
+unfoldable pub validConfiguration : Configuration → Bool
+validConfiguration c =
+    validDuration (c .«minimum_readiness_duration_ms»)
+    && (validDuration (c .«tracking_query_duration_ms»)
+    && (finite (c .«minimum_active_frame_energy_dbfs»)
+    && (finite (c .«minimum_average_energy_dbfs»)
+    && (le zero⁺ (c .«minimum_active_frame_fraction») && le (c .«minimum_active_frame_fraction») one))))
+
+-- ---- 2: the hop; a NaN is refused
+abbrev pub hopInRange : Float → Bool
+hopInRange hop = le hopLeast hop && le hop hopMost
+
+-- ---- 3: the reference's size
+abbrev pub countsInRange : ℕ → ℕ → Bool
+countsInRange frames bands = leb frames framesMost && leb bands bandsMost
+
+-- ---- 5: a finite reference time lies within ±10^12; one that is not finite is no refusal, it makes the reference one that is rejected
+abbrev pub nearOrNotFinite : Float → Bool
+nearOrNotFinite t = not (finite t) || near t
+
+-- ---- 6: the index holds `bands` rows of frames and of a quarter of them, with an energy more than values in a row
+unfoldable pub indexFits : ℕ → ℕ → Index → Bool
+indexFits frames bands x =
+    leb (bands * frames) (length (x .fine))
+    && (leb (bands * (frames / reduction)) (length (x .coarse))
+    && (leb (bands * (frames + 1)) (length (x .fineSquares)) && leb (bands * (frames / reduction + 1)) (length (x .coarseSquares))))
+
+-- ---- the order of opening
+unfoldable pub openingRefusal : Configuration → Float → Soundtrack → Index → Answer
+openingRefusal c hop film x =
+    unless (validConfiguration c) answer.InvalidConfiguration
+    (unless (hopInRange hop) answer.HopOutOfRange
+    (unless (countsInRange (length (film .times)) (film .bands)) answer.ReferenceTooLarge
+    (unless (eqb (length (film .values)) (film .bands * length (film .times))) answer.ReferenceMiscounted
+    (unless (every nearOrNotFinite (film .times)) answer.ReferenceTimeTooFar
+    (unless (indexFits (length (film .times)) (film .bands) x) answer.IndexTooShort
+    answer.Opened)))))
+
+-- ---- 7: what a state holds
+-- Frames and bands: both 0, or neither.
+abbrev pub bothOrNeither : ℕ → ℕ → Bool
+bothOrNeither frames bands = (eqb frames 0 && eqb bands 0) || (ltb 0 frames && ltb 0 bands)
+
+unfoldable pub validSettings : Settings → Bool
+validSettings s =
+    validConfiguration (s .configuration)
+    && (hopInRange (s .«hop_ms»)
+    && (countsInRange (s .«reference_frames») (s .«reference_bands»)
+    && (bothOrNeither (s .«reference_frames») (s .«reference_bands») && near (s .«reference_start_ms» .0))))
+
+abbrev pub trackNumber : Float → Bool
+trackNumber x = within trackMost x
+
+unfoldable pub validHypothesis : Hypothesis → Bool
+validHypothesis hypothesis.Absent = true
+validHypothesis (hypothesis.Held offset first last correlation) = trackNumber offset && (trackNumber (first .0) && (trackNumber (last .0) && trackNumber correlation))
+
+-- The search time may be minus infinity.
+abbrev pub validSearchTime : RecordedMs → Bool
+validSearchTime t = near (t .0) || eq (t .0) (inf true)
+
+unfoldable pub validLock : Lock → Bool
+validLock l = validHypothesis (l .pending) && (validHypothesis (l .accepted) && validSearchTime (l .«last_global_search_ms»))
+
+unfoldable pub validMilestone : Milestone → Bool
+validMilestone milestone.Absent = true
+validMilestone (milestone.At t) = finite (t .0)
+
+unfoldable pub validMilestones : Milestones → Bool
+validMilestones m = validMilestone (m .«first_provisional_ms») && (validMilestone (m .«confirmed_ms») && validMilestone (m .«final_ms»))
+
+unfoldable pub validEndpoint : Endpoint → Bool
+validEndpoint endpoint.Absent = true
+validEndpoint (endpoint.At t) = near (t .0)
+
+unfoldable pub validEstimate : Estimate → Bool
+validEstimate estimate.Absent = true
+validEstimate (estimate.At recorded reference offset) = trackNumber (recorded .0) && (trackNumber (reference .0) && trackNumber offset)
+
+-- Where there is no last snapshot, nothing is asked of one.
+unfoldable pub validLast : Last → Bool
+validLast l =
+    validEndpoint (l .«endpoint_ms»)
+    && (not (l .«has_snapshot») || (leb (l .snapshot .diagnostics .«candidate_count») most && validEstimate (l .snapshot .estimate)))
+
+unfoldable pub validEngine : Engine → Bool
+validEngine e = validSettings (e .settings) && (validLock (e .lock) && (validMilestones (e .milestones) && validLast (e .last)))
+
+-- ---- 11 to 13: the window and the working buffers
+unfoldable pub validWindow : Window → Bool
+validWindow w =
+    ltb 0 (w .bands)
+    && (eqb (length (w .energies)) (length (w .times)) && (eqb (length (w .values)) (w .bands * length (w .times)) && validValues (w .values)))
+
+-- An energy is a number below plus infinity; minus infinity passes.
+abbrev pub validEnergy : Float → Bool
+validEnergy x = lt x (inf false)
+
+-- By the window's bands and frames and the state's frames.
+unfoldable pub workFits : ℕ → ℕ → ℕ → ℕ → ℕ → Bool
+workFits bands frames referenceFrames room32 room64 = leb (2 * bands * frames) room32 && leb (3 * bands * (frames + 1) + referenceFrames) room64
+
+-- ---- a submission: what is handed in with the state
+pub record Submission : Type 0 where
+  pub index : Index
+  pub window : Window
+  pub clock : ClockMs
+  -- the working buffers' lengths
+  pub room32 : ℕ
+  pub room64 : ℕ
+
+-- All that may be refused of it, by a state whose settings are these.
+unfoldable pub handedRefusal : Settings → Submission → Answer
+handedRefusal s i =
+    let w = i .window in
+    unless (indexFits (s .«reference_frames») (s .«reference_bands») (i .index)) answer.IndexTooShort
+    (unless (finite (i .clock .0)) answer.ClockNotFinite
+    (unless (ltb 0 (length (w .times))) answer.NoFrames
+    (unless (leb (length (w .times)) windowMost && leb (w .bands) bandsMost) answer.WindowTooLarge
+    (unless (validWindow w) answer.WindowInvalid
+    (unless (every near (w .times) && every validEnergy (w .energies)) answer.WindowTimeOutOfRange
+    (unless (workFits (w .bands) (length (w .times)) (s .«reference_frames») (i .room32) (i .room64)) answer.WorkTooShort
+    answer.Computed))))))
+
+-- ---- the order of submission
+unfoldable pub submissionRefusal : Engine → Submission → Answer
+submissionRefusal e i = unless (validEngine e) answer.StateOutOfRange (handedRefusal (e .settings) i)

@@ -1,0 +1,24 @@
+-- What a submission that is not refused leaves to the searches: the bounds of all that is lent. Definitions only.
+use Prim.Native.Nat.{ℕ, _+_, _*_, _/_, _≤_, _<_}
+use mathlib.Core.Bool.{true}
+use mathlib.Core.Path.{_≡_}
+use lib.ListN.{length}
+use Rattle.matcher_bands.specs.Centring.{wideHop}
+use Rattle.engine_spec.specs.Windows.{Index, Window}
+use Rattle.engine_spec.specs.Refusals.{bothOrNeither}
+use Rattle.engine_spec.specs.declared.types.Settings.{Settings}
+
+pub record Room (s : Settings) (x : Index) (w : Window) (room32 room64 : ℕ) : Type 0 where
+  pub hop : wideHop (s .«hop_ms») ≡ true
+  pub both : bothOrNeither (s .«reference_frames») (s .«reference_bands») ≡ true
+  pub few : s .«reference_bands» ≤ 64
+  pub short : s .«reference_frames» ≤ 65535
+  pub some : 0 < length (w .times)
+  pub energies : length (w .energies) ≡ length (w .times)
+  pub values : length (w .values) ≡ w .bands * length (w .times)
+  pub fine : s .«reference_bands» * s .«reference_frames» ≤ length (x .fine)
+  pub coarse : s .«reference_bands» * (s .«reference_frames» / 4) ≤ length (x .coarse)
+  pub fine-squares : s .«reference_bands» * (s .«reference_frames» + 1) ≤ length (x .fineSquares)
+  pub coarse-squares : s .«reference_bands» * (s .«reference_frames» / 4 + 1) ≤ length (x .coarseSquares)
+  pub work32 : 2 * (w .bands * length (w .times)) ≤ room32
+  pub work64 : 3 * (w .bands * (length (w .times) + 1)) + s .«reference_frames» ≤ room64

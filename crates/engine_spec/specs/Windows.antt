@@ -1,0 +1,96 @@
+-- What is handed in: the reference, the lent index, a window; and the times of a window. Definitions only.
+use Prim.Native.Nat.{ℕ, _-_}
+use mathlib.Core.Bool.{Bool, false, not, _&&_, _||_}
+use mathlib.Core.List.{List}
+use lib.Dec.{eqb}
+use lib.ListN.{length, getD}
+use lib.Ieee.{Float, nan, lt}
+use Rattle.numbers.specs.Arithmetic.{_⊕_, _⊖_, _⊗_, two}
+use Rattle.matcher_bands.specs.Centring.{contextFrames}
+use Rattle.matcher_bands.specs.Timeline.{accepts}
+use Rattle.matcher.specs.Index.{Matcher, lentMatcher}
+use Rattle.matcher.specs.declared.index.Reference.{Reference}
+use Rattle.matcher.specs.Search as search
+use Rattle.engine_spec.specs.Thresholds.{rereadMs}
+use Rattle.engine_spec.specs.declared.types.RecordedMs.{RecordedMs}
+use Rattle.engine_spec.specs.declared.types.Settings.{Settings}
+use Rattle.engine_spec.specs.declared.types.Endpoint.{Endpoint}
+use Rattle.engine_spec.specs.declared.types.Endpoint.the-variants as endpoint
+
+-- ---- what is lent
+-- A reference: a time for each frame, and values band after band.
+pub record Soundtrack : Type 0 where
+  pub bands : ℕ
+  pub times : List Float
+  pub values : List Float
+
+-- The four buffers of the index.
+pub record Index : Type 0 where
+  pub fine : List Float
+  pub coarse : List Float
+  pub fineSquares : List Float
+  pub coarseSquares : List Float
+
+-- A window: a time and an energy for each frame, and values band after band.
+pub record Window : Type 0 where
+  pub bands : ℕ
+  pub times : List Float
+  pub energies : List Float
+  pub values : List Float
+
+-- ---- what the settings say of the reference
+-- Whether there is an index.
+abbrev pub indexed : Settings → Bool
+indexed s = not (eqb (s .«reference_frames») 0)
+
+abbrev pub referenceOf : Settings → Reference
+referenceOf s = record { bands = s .«reference_bands»; frames = s .«reference_frames»; «start_ms» = s .«reference_start_ms» .0; «hop_ms» = s .«hop_ms» }
+
+-- The matcher that a lent index holds.
+abbrev pub matcherIn : Settings → Index → Matcher
+matcherIn s x = lentMatcher (referenceOf s) (x .fine) (x .coarse) (x .fineSquares) (x .coarseSquares)
+
+-- ---- a window's times
+-- How long b lies after a, in f64.
+infixl 6 _after_
+abbrev pub _after_ : RecordedMs → RecordedMs → Float
+b after a = b .0 ⊖ a .0
+
+abbrev pub start : Window → RecordedMs
+start w = record { 0 = getD (w .times) 0 nan }
+
+abbrev pub endpointOf : Window → RecordedMs
+endpointOf w = record { 0 = getD (w .times) (length (w .times) - 1) nan }
+
+abbrev pub duration : Window → Float
+duration w = endpointOf w after start w
+
+-- Evidence time (document 01): the endpoint less the rounded 250 / hop frames that centring trims, here without the floor of 1.
+unfoldable pub evidence : Float → Window → RecordedMs
+evidence hop w = record { 0 = endpointOf w .0 ⊖ contextFrames hop ⊗ hop }
+
+-- ---- a window as the matcher takes it
+abbrev pub query : Window → search.Window
+query w = search.windowOf (w .bands) (w .times) (w .values)
+
+-- An accepted timeline.
+abbrev pub acceptsTimeline : Settings → Window → Bool
+acceptsTimeline s w = accepts (s .«reference_bands») (s .«hop_ms») (w .bands) (w .times)
+
+-- ---- jumps and re-readings, by the endpoint of the last computed window
+-- A jump (document 01): an endpoint before the last computed one, or a start above it + 2 × hop.
+unfoldable pub jumpsFrom : Float → RecordedMs → Window → Bool
+jumpsFrom hop last w = lt (endpointOf w .0) (last .0) || lt (last .0 ⊕ two ⊗ hop) (start w .0)
+
+-- Otherwise an endpoint less than 90 past it, on an accepted timeline or without index, is a re-reading (document 01).
+unfoldable pub rereadsFrom : Settings → RecordedMs → Window → Bool
+rereadsFrom s last w = not (jumpsFrom (s .«hop_ms») last w) && (lt (endpointOf w after last) rereadMs && (not (indexed s) || acceptsTimeline s w))
+
+-- Before the first computed window there is neither.
+abbrev pub jumps : Settings → Endpoint → Window → Bool
+jumps s endpoint.Absent w = false
+jumps s (endpoint.At last) w = jumpsFrom (s .«hop_ms») last w
+
+abbrev pub rereads : Settings → Endpoint → Window → Bool
+rereads s endpoint.Absent w = false
+rereads s (endpoint.At last) w = rereadsFrom s last w

@@ -1,0 +1,3 @@
+// The engine: its types. The definitions of opening, submission and support age, and the lock
+// guarantee over them, stand in specs/.
+pub mod types;
