@@ -69,6 +69,10 @@ module _ (c : Configuration) (hop : Float) (film : Soundtrack) (x : Index) where
   abbrev refusal : Answer
   refusal = openingRefusal c hop film x
 
+  -- what the code's test for a refusal says of the definition
+  pub refusal-tested : {r : Answer} {b z : Bool} → r ≡ refusal → b ≡ refuses r → b ≡ z → refuses refusal ≡ z
+  refusal-tested q e t = sym (e ∙ ap refuses q) ∙ t
+
   pub opening-refused : {r : Answer} {e : Engine} → r ≡ refusal → e ≡ noEngine → refuses r ≡ true → _≡_ {A = Opened} record { answer = r; engine = e } (opening c hop film x)
   unfolding opening
   opening-refused q g h =
@@ -84,11 +88,11 @@ module _ (c : Configuration) (hop : Float) (film : Soundtrack) (x : Index) where
 
   -- the buffers
   filled-by : (flag : Bool) → fills c hop film x ≡ flag → _≡_ {A = Index} record {
-        fine = filled flag (matcherOfFilm hop film .fine .values) (x .fine);
-        coarse = filled flag (matcherOfFilm hop film .coarse .values) (x .coarse);
-        fineSquares = filled flag (matcherOfFilm hop film .fine .squares) (x .fineSquares);
-        coarseSquares = filled flag (matcherOfFilm hop film .coarse .squares) (x .coarseSquares);
-      } (openedIndex c hop film x)
+    fine = filled flag (matcherOfFilm hop film .fine .values) (x .fine);
+    coarse = filled flag (matcherOfFilm hop film .coarse .values) (x .coarse);
+    fineSquares = filled flag (matcherOfFilm hop film .fine .squares) (x .fineSquares);
+    coarseSquares = filled flag (matcherOfFilm hop film .coarse .squares) (x .coarseSquares);
+  } (openedIndex c hop film x)
   unfolding openedIndex
   filled-by flag e = λ i. record {
     fine = filled (sym e i) (matcherOfFilm hop film .fine .values) (x .fine);
@@ -111,8 +115,8 @@ module _ (c : Configuration) (hop : Float) (film : Soundtrack) (x : Index) where
       (λ i. record { fine = p i; coarse = q i; fineSquares = r i; coarseSquares = t i }) ∙ filled-by b e
 
 module _ (c : Configuration) (hop : Float) (film : Soundtrack) where
-  pub fresh-with : {b : Bool} → b ≡ true → freshEngine (withIndex c hop film) ≡ freshEngine (cond b (withIndex c hop film) (withoutIndex c hop))
-  fresh-with e = rw e refl
+  pub fresh-with : {b : Bool} {s : Settings} → s ≡ withIndex c hop film → b ≡ true → freshEngine s ≡ freshEngine (cond b (withIndex c hop film) (withoutIndex c hop))
+  fresh-with q e = rw (e, q) refl
 
   pub fresh-without : {b : Bool} {s : Settings} → s ≡ withoutIndex c hop → b ≡ false → freshEngine s ≡ freshEngine (cond b (withIndex c hop film) (withoutIndex c hop))
   fresh-without q e = rw (e, q) refl

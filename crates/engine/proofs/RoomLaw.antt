@@ -1,12 +1,11 @@
 -- What a submission that is not refused leaves to the searches. Assumes nothing.
 use Prim.Native.Nat.{ℕ, _+_, _*_, _/_, _≤_}
 use native.Mathlib.Nat.{mul-assoc}
-use native.Mathlib.Omega.{arith}
-use mathlib.Core.Bool.{Bool, true, false, _&&_}
-use mathlib.Core.Path.{_≡_, refl, sym, subst}
+use mathlib.Core.Bool.{false, _&&_}
+use mathlib.Core.Path.{_≡_}
 use lib.Dec.{T, ltb, leb, eqb, ltb→lt, leb→le, eqb→eq}
 use lib.ListN.{length}
-use lib.Ieee.{Float, le}
+use lib.Ieee.{le}
 use lib.Ieee.Scale.{finite}
 use Rattle.matcher_bands.specs.Timeline.{validValues}
 use Rattle.matcher_bands.specs.Energy.{reduction}

@@ -1,21 +1,22 @@
 // A fresh engine, and what stands where there is none.
+ghost use Prim.Native.Nat.{_<_, _≤_};
+ghost use lib.ListN.{length};
+ghost use mathlib.Core.List.{[]};
 ghost use mathlib.Core.Path.{_≡_};
-ghost use Rattle.numbers.specs.Arithmetic.{zero⁺};
-ghost use Rattle.engine_spec.specs.Opening.{blankCandidate, blankSnapshot, freshEngine, noEngine, noLock, noMilestones, withoutIndex};
-use engine_spec::types::CandidateDiagnostics;
+ghost use Rattle.engine_spec.specs.Opening.{blankSnapshot, freshEngine, noEngine, noMilestones, withIndex, withoutIndex};
+ghost use Rattle.engine_spec.specs.Lent.{film};
+use engine_decision::windows::no_lock;
+use engine_snapshot::candidates::blank_candidate;
 use engine_spec::types::Configuration;
 use engine_spec::types::Diagnostics;
 use engine_spec::types::Endpoint;
 use engine_spec::types::Engine;
 use engine_spec::types::Estimate;
-use engine_spec::types::Hypothesis;
 use engine_spec::types::Last;
-use engine_spec::types::Lock;
 use engine_spec::types::LockPhase;
 use engine_spec::types::Maybe;
 use engine_spec::types::Milestone;
 use engine_spec::types::Milestones;
-use engine_spec::types::RecordedMs;
 use engine_spec::types::ReferenceMs;
 use engine_spec::types::Settings;
 use engine_spec::types::Snapshot;
@@ -23,86 +24,6 @@ use engine_spec::types::SpectralDiagnostics;
 use engine_spec::types::Stage;
 use engine_spec::types::State;
 use engine_spec::types::WithholdReason;
-
-pub fn no_lock() -> Lock
-    ensures { λ r. ⌜ r ≡ noLock ⌝ }
-{
-    Lock {
-        pending: Hypothesis::Absent,
-        accepted: Hypothesis::Absent,
-        last_global_search_ms: RecordedMs(-1.0 / 0.0),
-    }
-}
-
-fn no_milestones() -> Milestones
-    ensures { λ r. ⌜ r ≡ noMilestones ⌝ }
-{
-    Milestones {
-        first_provisional_ms: Milestone::Absent,
-        confirmed_ms: Milestone::Absent,
-        final_ms: Milestone::Absent,
-    }
-}
-
-fn blank_spectral() -> SpectralDiagnostics
-    ensures { λ r. ⌜ r ≡ blankSnapshot .diagnostics .spectral ⌝ }
-{
-    SpectralDiagnostics {
-        global_search: false,
-        correlation: 0.0,
-        competing_peak_margin: Maybe::Absent,
-        first_half_correlation: 0.0,
-        second_half_correlation: 0.0,
-        recent_correlation: 0.0,
-        fresh_evidence_ms: 0.0,
-        coast_ms: 0.0,
-    }
-}
-
-fn blank_diagnostics() -> Diagnostics
-    ensures { λ r. ⌜ r ≡ blankSnapshot .diagnostics ⌝ }
-{
-    let spectral = blank_spectral();
-    let blank = CandidateDiagnostics {
-        offset_ms: 0.0,
-        coarse_offset_ms: 0.0,
-        comparable_frame_count: 0,
-        coverage_ratio: 0.0,
-        combined_dense_score: 0.0,
-    };
-    let candidates = [blank; 8];
-    Diagnostics {
-        query_duration_ms: 0.0,
-        active_frame_fraction: 0.0,
-        coarse_ambiguous: false,
-        dense_margin: 0.0,
-        offset_stability_ms: Maybe::Absent,
-        track_innovation_ms: Maybe::Absent,
-        track_count: 0,
-        offset_tracker_confirmed: false,
-        offset_tracker_stable: false,
-        candidate_count: 0,
-        candidates,
-        spectral,
-    }
-}
-
-pub fn blank_snapshot() -> Snapshot
-    ensures { λ r. ⌜ r ≡ blankSnapshot ⌝ }
-{
-    let diagnostics = blank_diagnostics();
-    let milestones = no_milestones();
-    Snapshot {
-        state: State::Ready,
-        phase: LockPhase::None,
-        stage: Stage::Readiness,
-        estimate: Estimate::Absent,
-        withhold_reason: WithholdReason::None,
-        confidence: 0.0,
-        diagnostics,
-        milestones,
-    }
-}
 
 pub fn fresh_engine(settings: Settings) -> Engine
     ensures { λ r. ⌜ r ≡ freshEngine settings ⌝ }
@@ -123,6 +44,34 @@ pub fn fresh_engine(settings: Settings) -> Engine
     }
 }
 
+pub fn no_engine() -> Engine
+    ensures { λ r. ⌜ r ≡ noEngine ⌝ }
+{
+    let configuration = Configuration {
+        minimum_readiness_duration_ms: 0.0,
+        tracking_query_duration_ms: 0.0,
+        minimum_active_frame_energy_dbfs: 0.0,
+        minimum_average_energy_dbfs: 0.0,
+        minimum_active_frame_fraction: 0.0,
+    };
+    fresh_engine(without_index(configuration, 0.0))
+}
+
+// The reference's counts and start.
+pub fn with_index(configuration: Configuration, hop: f64, bands: usize, times: &[f64]) -> Settings
+    requires { ⌜ 0 < length (now times) ⌝ ∗ ⌜ length (now times) ≤ 65535 ⌝ ∗ ⌜ bands ≤ 64 ⌝ }
+    ensures { λ r. ⌜ r ≡ withIndex configuration hop (film bands (now (times .entry)) []) ⌝ }
+{
+    Settings {
+        configuration,
+        hop_ms: hop,
+        reference_frames: times.len() as u16,
+        reference_bands: bands as u16,
+        reference_start_ms: ReferenceMs(times[0]),
+    }
+}
+
+// Counts and start are 0.
 pub fn without_index(configuration: Configuration, hop: f64) -> Settings
     ensures { λ r. ⌜ r ≡ withoutIndex configuration hop ⌝ }
 {
@@ -135,15 +84,65 @@ pub fn without_index(configuration: Configuration, hop: f64) -> Settings
     }
 }
 
-pub fn no_engine() -> Engine
-    ensures { λ r. ⌜ r ≡ noEngine ⌝ }
+pub fn blank_snapshot() -> Snapshot
+    ensures { λ r. ⌜ r ≡ blankSnapshot ⌝ }
 {
-    let configuration = Configuration {
-        minimum_readiness_duration_ms: 0.0,
-        tracking_query_duration_ms: 0.0,
-        minimum_active_frame_energy_dbfs: 0.0,
-        minimum_average_energy_dbfs: 0.0,
-        minimum_active_frame_fraction: 0.0,
-    };
-    fresh_engine(without_index(configuration, 0.0))
+    let diagnostics = blank_diagnostics();
+    let milestones = no_milestones();
+    Snapshot {
+        state: State::Ready,
+        phase: LockPhase::None,
+        stage: Stage::Readiness,
+        estimate: Estimate::Absent,
+        withhold_reason: WithholdReason::None,
+        confidence: 0.0,
+        diagnostics,
+        milestones,
+    }
+}
+
+fn blank_diagnostics() -> Diagnostics
+    ensures { λ r. ⌜ r ≡ blankSnapshot .diagnostics ⌝ }
+{
+    let spectral = blank_spectral();
+    let candidates = [blank_candidate(); 8];
+    Diagnostics {
+        query_duration_ms: 0.0,
+        active_frame_fraction: 0.0,
+        coarse_ambiguous: false,
+        dense_margin: 0.0,
+        offset_stability_ms: Maybe::Absent,
+        track_innovation_ms: Maybe::Absent,
+        track_count: 0,
+        offset_tracker_confirmed: false,
+        offset_tracker_stable: false,
+        candidate_count: 0,
+        candidates,
+        spectral,
+    }
+}
+
+fn blank_spectral() -> SpectralDiagnostics
+    ensures { λ r. ⌜ r ≡ blankSnapshot .diagnostics .spectral ⌝ }
+{
+    SpectralDiagnostics {
+        global_search: false,
+        correlation: 0.0,
+        competing_peak_margin: Maybe::Absent,
+        first_half_correlation: 0.0,
+        second_half_correlation: 0.0,
+        recent_correlation: 0.0,
+        fresh_evidence_ms: 0.0,
+        coast_ms: 0.0,
+    }
+}
+
+fn no_milestones() -> Milestones
+    ensures { λ r. ⌜ r ≡ noMilestones ⌝ }
+{
+    Milestones {
+        first_provisional_ms: Milestone::Absent,
+        confirmed_ms: Milestone::Absent,
+        final_ms: Milestone::Absent,
+    }
 }

@@ -1,25 +1,22 @@
 -- The lock rules by the best candidate of a result. Assumes nothing.
-use Prim.Native.Nat.{ℕ, zero, suc, _+_, _*_, _<_, _≤_}
+use Prim.Native.Nat.{ℕ, zero, suc, _*_, _<_}
 use native.Mathlib.Omega.{arith}
-use native.Mathlib.Nat.{lt-irrefl}
-use mathlib.Core.Bool.{Bool, true, false, cond, not, _&&_, _||_, true≢false, false≢true}
+use mathlib.Core.Bool.{Bool, true, false, cond, not, _&&_, _||_, false≢true}
 use mathlib.Core.List.{List, [], _∷_}
 use mathlib.Core.Path.{_≡_, refl, sym, ap, _∙_}
-use lib.ListN.{length, drop, take}
+use lib.ListN.{drop, take}
 use borrow.Author.Tests.{eq-eqb, not-true, not-false}
-use lib.Dec.{eqb}
 use lib.Ieee.{Float, nan, inf, fin, le, eq, isNan, up, down}
 use Rattle.matcher.specs.Index.{Matcher}
-use Rattle.matcher.specs.Search.{localSearch, localFound, searchable}
-use Rattle.matcher_picks.specs.Candidates.{listed, resultOf, marginOf}
+use Rattle.matcher.specs.Search.{localSearch}
+use Rattle.matcher_picks.specs.Candidates.{marginOf}
 use Rattle.matcher_picks.specs.declared.candidates.Candidate.{Candidate}
-use Rattle.matcher_picks.specs.declared.candidates.MatchResult.{MatchResult}
 use Rattle.engine_spec.specs.Thresholds.{passingCorrelation, passingMargin, passingHalf, localMs}
 use Rattle.numbers.specs.Arithmetic.{_⊕_, _⊖_, zero⁺, atLeast}
 use Rattle.engine_spec.specs.Windows.{Window, query, evidence, _after_}
 use Rattle.engine_spec.specs.Tracking as tracking
 use Rattle.engine_spec.specs.Tracking.{samePlace, mayCoast, supports, movedOffset, unsupported, followed, tracked}
-use Rattle.engine_spec.specs.Locking.{least, passing, current, holds, Reached, Searched, firstEvidence, passed, notPassed, wholeSearched}
+use Rattle.engine_spec.specs.Locking.{least, passing, current, holds, Reached, firstEvidence, passed, notPassed, wholeSearched}
 use Rattle.engine_spec.specs.declared.types.RecordedMs.{RecordedMs}
 use Rattle.engine_spec.specs.declared.types.Maybe.the-variants as maybe
 use Rattle.engine_spec.specs.declared.types.Hypothesis.{Hypothesis}

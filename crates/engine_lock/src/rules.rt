@@ -12,6 +12,15 @@ use crate::kinds::Tracked;
 use crate::track::best_of;
 use crate::track::evidence;
 use crate::track::is_same_place;
+use engine_spec::thresholds::CHAIN_MS;
+use engine_spec::thresholds::CHAIN_RECENT;
+use engine_spec::thresholds::PASSING_CORRELATION;
+use engine_spec::thresholds::PASSING_HALF;
+use engine_spec::thresholds::PASSING_MARGIN;
+use engine_spec::thresholds::SAME_PLACE_MS;
+use engine_spec::thresholds::SEARCH_INTERVAL_MS;
+use engine_spec::thresholds::STALE_MS;
+use engine_spec::thresholds::SUPPORTED_INTERVAL_MS;
 use engine_spec::types::Hypothesis;
 use engine_spec::types::Lock;
 use engine_spec::types::RecordedMs;
@@ -25,9 +34,9 @@ pub fn is_whole_due(supported: bool, now: RecordedMs, last: RecordedMs) -> bool
     ensures { λ r. ⌜ r ≡ wholeDue supported now last ⌝ }
 {
     if supported {
-        return now.0 - last.0 >= 2000.0;
+        return now.0 - last.0 >= SUPPORTED_INTERVAL_MS;
     }
-    now.0 - last.0 >= 500.0
+    now.0 - last.0 >= SEARCH_INTERVAL_MS
 }
 
 // `x.min(y)`: a NaN beside a number is passed over.
@@ -45,15 +54,15 @@ pub fn is_passing(found: MatchResult) -> bool
         return false;
     }
     let best = best_of(found);
-    (best.score >= 0.25)
-        & ((margin(found) >= 0.06)
-            & (least(best.first_half_score, best.second_half_score) >= 0.1))
+    (best.score >= PASSING_CORRELATION)
+        & ((margin(found) >= PASSING_MARGIN)
+            & (least(best.first_half_score, best.second_half_score) >= PASSING_HALF))
 }
 
 fn is_current(now: RecordedMs, last: RecordedMs) -> bool
     ensures { λ r. ⌜ r ≡ current now last ⌝ }
 {
-    now.0 - last.0 <= 2500.0
+    now.0 - last.0 <= STALE_MS
 }
 
 fn first_evidence(pending: Hypothesis, offset: f64, now: RecordedMs) -> RecordedMs
@@ -84,7 +93,8 @@ fn holds(offset: f64, last: RecordedMs, found: MatchResult, now: RecordedMs) -> 
         return false;
     }
     let best = best_of(found);
-    is_same_place(best.offset_ms, offset) & ((margin(found) >= 0.06) & is_current(now, last))
+    is_same_place(best.offset_ms, offset)
+        & ((margin(found) >= PASSING_MARGIN) & is_current(now, last))
 }
 
 fn held_or_dropped(pending: Hypothesis, found: MatchResult, now: RecordedMs) -> Hypothesis
@@ -111,7 +121,7 @@ fn held_or_dropped(pending: Hypothesis, found: MatchResult, now: RecordedMs) -> 
 fn confirms(hop: f64, first: RecordedMs, now: RecordedMs, best: Candidate) -> bool
     ensures { λ r. ⌜ r ≡ confirms hop first now best ⌝ }
 {
-    (now.0 - first.0 >= 1000.0 - hop) & (best.recent_score >= 0.15)
+    (now.0 - first.0 >= CHAIN_MS - hop) & (best.recent_score >= CHAIN_RECENT)
 }
 
 fn kept_or_replaced(
@@ -136,7 +146,7 @@ fn kept_or_replaced(
             last_evidence_ms: _,
             correlation: _,
         } => {
-            if (abs(offset_ms - best.offset_ms) > 80.0) | !supported {
+            if (abs(offset_ms - best.offset_ms) > SAME_PLACE_MS) | !supported {
                 begun
             } else {
                 accepted

@@ -8,6 +8,11 @@ ghost use Rattle.engine_spec.specs.Windows.{evidence};
 ghost use Rattle.engine_spec.specs.Tracking.{followed, gain, mayCoast, movedOffset, samePlace, supports, unsupported};
 ghost use Rattle.engine_lock.specs.Views.{endingAt, trackedIn};
 use crate::kinds::Tracked;
+use engine_spec::thresholds::COAST_MOST_MS;
+use engine_spec::thresholds::GAIN_MS;
+use engine_spec::thresholds::SAME_PLACE_MS;
+use engine_spec::thresholds::SUPPORT_CORRELATION;
+use engine_spec::thresholds::SUPPORT_RECENT;
 use engine_spec::types::Hypothesis;
 use engine_spec::types::Maybe;
 use engine_spec::types::RecordedMs;
@@ -28,25 +33,26 @@ pub fn evidence(hop: f64, endpoint: RecordedMs) -> RecordedMs
 pub fn is_same_place(a: f64, b: f64) -> bool
     ensures { λ r. ⌜ r ≡ samePlace a b ⌝ }
 {
-    abs(a - b) <= 80.0
+    abs(a - b) <= SAME_PLACE_MS
 }
 
 pub fn may_coast(now: RecordedMs, last: RecordedMs) -> bool
     ensures { λ r. ⌜ r ≡ mayCoast now last ⌝ }
 {
-    now.0 - last.0 <= 1500.0
+    now.0 - last.0 <= COAST_MOST_MS
 }
 
 fn supports(offset: f64, best: Candidate) -> bool
     ensures { λ r. ⌜ r ≡ supports offset best ⌝ }
 {
-    (best.score >= 0.15) & ((best.recent_score >= 0.12) & is_same_place(best.offset_ms, offset))
+    (best.score >= SUPPORT_CORRELATION)
+        & ((best.recent_score >= SUPPORT_RECENT) & is_same_place(best.offset_ms, offset))
 }
 
 fn gain(dt: f64) -> f64
     ensures { λ r. ⌜ r ≡ gain dt ⌝ }
 {
-    1.0 - exp(-dt / 300.0)
+    1.0 - exp(-dt / GAIN_MS)
 }
 
 fn moved_offset(offset: f64, best: Candidate, dt: f64) -> f64

@@ -1,8 +1,8 @@
 -- A tally, one place on. Assumes nothing.
-use Prim.Native.Nat.{ℕ, suc, _+_, _≤_}
+use Prim.Native.Nat.{ℕ, suc, _+_}
 use native.Mathlib.Numerals.{add-one}
 use mathlib.Core.Bool.{Bool, true, false}
-use mathlib.Core.Path.{_≡_, refl, sym, ap, _∙_}
+use mathlib.Core.Path.{_≡_, ap}
 use Rattle.engine_spec.specs.Readiness.{tally}
 
 pub tally-yes : (p : ℕ → Bool) (n : ℕ) {a : ℕ} → a ≡ tally p n → p n ≡ true → a + 1 ≡ tally p (n + 1)

@@ -11,6 +11,7 @@ ghost use Rattle.engine_spec.specs.Thresholds.{ten};
 ghost use Rattle.engine_spec.specs.Windows.{duration};
 ghost use Rattle.engine_spec.specs.Readiness.{activeFraction, averageEnergy, isNone, meanPower, minimumDuration, readiness, tally};
 ghost use Rattle.engine_spec.specs.Lent.{window};
+use engine_spec::thresholds::TEN;
 use engine_spec::types::Configuration;
 use engine_spec::types::Settings;
 use engine_spec::types::WithholdReason;
@@ -57,7 +58,7 @@ fn power_at(energies: &[f64], i: usize) -> f64
     requires { ⌜ i < length (now energies) ⌝ }
     ensures { λ r. ⌜ r ≡ tenTo (getD (now (energies .entry)) i nan ⊘ ten) ⌝ }
 {
-    ten_to(energies[i] / 10.0)
+    ten_to(energies[i] / TEN)
 }
 
 // The powers of the first n frames, added in order.
@@ -82,7 +83,7 @@ fn average_energy(bands: usize, times: &[f64], energies: &[f64], values: &[f32])
     let n = times.len();
     let mean = power_sum(energies, n) / real(n);
     if mean > 0.0 {
-        10.0 * log10(mean)
+        TEN * log10(mean)
     } else {
         -1.0 / 0.0
     }
@@ -123,7 +124,12 @@ pub fn readiness(
     if times[n - 1] - times[0] < least {
         return WithholdReason::InsufficientDuration;
     }
-    if !accepts_timeline(settings.reference_bands as usize, settings.hop_ms, bands, times) {
+    if !accepts_timeline(
+        settings.reference_bands as usize,
+        settings.hop_ms,
+        bands,
+        times,
+    ) {
         return WithholdReason::LostSignal;
     }
     let average = average_energy(bands, times, energies, values);

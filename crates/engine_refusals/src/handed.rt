@@ -11,6 +11,8 @@ use crate::ranges::is_hop;
 use crate::states::are_counts;
 use crate::states::is_valid_configuration;
 use crate::states::is_valid_engine;
+use engine_spec::limits::BANDS_MOST;
+use engine_spec::limits::WINDOW_MOST;
 use engine_spec::types::Answer;
 use engine_spec::types::ClockMs;
 use engine_spec::types::Configuration;
@@ -134,7 +136,14 @@ fn handed_refusal(
     let n = times.len();
     let frames = settings.reference_frames as usize;
     let reference_bands = settings.reference_bands as usize;
-    if !index_fits(frames, reference_bands, fine, coarse, fine_squares, coarse_squares) {
+    if !index_fits(
+        frames,
+        reference_bands,
+        fine,
+        coarse,
+        fine_squares,
+        coarse_squares,
+    ) {
         return Answer::IndexTooShort;
     }
     if !is_finite(clock.0) {
@@ -143,10 +152,10 @@ fn handed_refusal(
     if n == 0 {
         return Answer::NoFrames;
     }
-    if 1024 < n {
+    if WINDOW_MOST < n {
         return Answer::WindowTooLarge;
     }
-    if 64 < bands {
+    if BANDS_MOST < bands {
         return Answer::WindowTooLarge;
     }
     if !is_valid_window(bands, times, energies, values) {

@@ -1,6 +1,10 @@
 // Ranges of numbers, and scans of lists for them.
 ghost use mathlib.Core.Path.{_≡_};
 ghost use Rattle.engine_spec.specs.Refusals.{every, hopInRange, near, nearOrNotFinite, trackNumber, validEnergy, within};
+use engine_spec::limits::FARTHEST_MS;
+use engine_spec::limits::HOP_LEAST;
+use engine_spec::limits::HOP_MOST;
+use engine_spec::limits::TRACK_MOST;
 use numbers::float::is_finite;
 
 // Whether x lies from -limit to limit.
@@ -13,13 +17,13 @@ pub fn is_within(limit: f64, x: f64) -> bool
 pub fn is_near(t: f64) -> bool
     ensures { λ r. ⌜ r ≡ near t ⌝ }
 {
-    is_within(1000000000000.0, t)
+    is_within(FARTHEST_MS, t)
 }
 
 pub fn is_track_number(x: f64) -> bool
     ensures { λ r. ⌜ r ≡ trackNumber x ⌝ }
 {
-    is_within(10000000000000.0, x)
+    is_within(TRACK_MOST, x)
 }
 
 fn is_near_or_not_finite(t: f64) -> bool
@@ -37,7 +41,7 @@ fn is_valid_energy(x: f64) -> bool
 pub fn is_hop(hop: f64) -> bool
     ensures { λ r. ⌜ r ≡ hopInRange hop ⌝ }
 {
-    (1.0 <= hop) & (hop <= 1000.0)
+    (HOP_LEAST <= hop) & (hop <= HOP_MOST)
 }
 
 pub fn are_near(times: &[f64]) -> bool

@@ -1,9 +1,12 @@
 // Refusals 1 and 7: configurations and states.
 ghost use mathlib.Core.Path.{_≡_};
-ghost use Rattle.engine_spec.specs.Refusals.{bothOrNeither, countsInRange, validConfiguration, validDuration, validEndpoint, validEngine, validEstimate, validHypothesis, validLast, validLock, validMilestone, validMilestones, validSearchTime, validSettings};
+ghost use Rattle.engine_spec.specs.Refusals.{bothOrNeither, countsInRange, validConfiguration, validDuration, validEndpoint, validEngine, validEstimate, validHypothesis, validLast, validLock, validMilestone, validMilestones, validSearchTime, validSettings, validSnapshot};
 use crate::ranges::is_hop;
 use crate::ranges::is_near;
 use crate::ranges::is_track_number;
+use engine_spec::limits::BANDS_MOST;
+use engine_spec::limits::CANDIDATES_MOST;
+use engine_spec::limits::FRAMES_MOST;
 use engine_spec::types::Configuration;
 use engine_spec::types::Endpoint;
 use engine_spec::types::Engine;
@@ -15,6 +18,7 @@ use engine_spec::types::Milestone;
 use engine_spec::types::Milestones;
 use engine_spec::types::RecordedMs;
 use engine_spec::types::Settings;
+use engine_spec::types::Snapshot;
 use numbers::float::is_finite;
 
 fn is_valid_duration(d: f64) -> bool
@@ -37,7 +41,7 @@ pub fn is_valid_configuration(c: Configuration) -> bool
 pub fn are_counts(frames: usize, bands: usize) -> bool
     ensures { λ r. ⌜ r ≡ countsInRange frames bands ⌝ }
 {
-    (frames <= 65535) & (bands <= 64)
+    (frames <= FRAMES_MOST) & (bands <= BANDS_MOST)
 }
 
 fn is_both_or_neither(frames: usize, bands: usize) -> bool
@@ -134,14 +138,22 @@ fn is_valid_estimate(e: Estimate) -> bool
     }
 }
 
+// At most 8 candidates, and an estimate and milestones that a state may hold.
+fn is_valid_snapshot(s: Snapshot) -> bool
+    ensures { λ r. ⌜ r ≡ validSnapshot s ⌝ }
+{
+    let estimate = s.estimate;
+    let milestones = s.milestones;
+    let shown = s.diagnostics.candidate_count;
+    (shown <= CANDIDATES_MOST) & (is_valid_estimate(estimate) & are_valid_milestones(milestones))
+}
+
 fn is_valid_last(l: Last) -> bool
     ensures { λ r. ⌜ r ≡ validLast l ⌝ }
 {
     let endpoint = l.endpoint_ms;
     let snapshot = l.snapshot;
-    let estimate = snapshot.estimate;
-    let shown = snapshot.diagnostics.candidate_count;
-    is_valid_endpoint(endpoint) & (!l.has_snapshot | ((shown <= 8) & is_valid_estimate(estimate)))
+    is_valid_endpoint(endpoint) & (!l.has_snapshot | is_valid_snapshot(snapshot))
 }
 
 pub fn is_valid_engine(e: Engine) -> bool

@@ -1,16 +1,16 @@
 -- The candidates that a snapshot shows, and magnitudes. Assumes nothing.
-use Prim.Native.Nat.{ℕ, zero, suc, _+_, _-_, _*_, _≤_, _<_}
+use Prim.Native.Nat.{ℕ, zero, suc, _+_, _-_, _*_, _<_}
 use native.Mathlib.Omega.{arith}
 use native.Mathlib.Numerals.{add-one}
-use native.Mathlib.Nat.{lt-irrefl, zero-mul, mul-one, mul-pos, zero-lt-suc}
-use mathlib.Core.Bool.{Bool, true, false, _&&_, _||_, false≢true, true≢false}
+use native.Mathlib.Nat.{lt-irrefl, zero-mul, mul-pos, zero-lt-suc}
+use mathlib.Core.Bool.{Bool, true, false, false≢true, true≢false}
 use mathlib.Core.List.{List, [], _∷_, _++_}
 use mathlib.Core.Path.{_≡_, refl, sym, ap, subst, _∙_}
 use borrow.Author.Tests.{lt-ltb}
-use lib.Dec.{T, eqb, ltb, eqb→eq, ltb→lt}
-use lib.ListN.{length, getD, set, take, drop, replicate, length-append}
+use lib.Dec.{T, eqb, eqb→eq, ltb→lt}
+use lib.ListN.{length, getD, set, take, replicate, length-append}
 use lib.Seq.{length-take-le, set-at, append-snoc, take-suc}
-use lib.IntN.{ℤ, pos}
+use lib.IntN.{ℤ}
 use lib.Ieee.{Float, nan, inf, fin, binary64, fits, eq, lt, neg, up, down}
 use lib.Ieee.Fits.{neg-fits, up-pos}
 use lib.Ieee.Back.{whole-unique}
@@ -23,7 +23,7 @@ use Rattle.engine_spec.specs.Opening.{blankCandidate}
 use Rattle.engine_spec.specs.Publishing.{comparableFrames, coverage, candidatesShown, candidateArray}
 use Rattle.engine_spec.specs.declared.types.CandidateDiagnostics.{CandidateDiagnostics}
 use Rattle.engine_spec.proofs.Tests.{and-l}
-use Rattle.engine_snapshot.specs.Decided.{shown, shownAll, shownArray}
+use Rattle.engine_snapshot.specs.Shown.{shown, shownAll, shownArray}
 
 module _ (n : ℕ) (r : Float) where
   snoc : (a : List Candidate) (c : Candidate) → shownAll n r (a ++ (c ∷ [])) ≡ shownAll n r a ++ (shown n r c ∷ [])

@@ -8,7 +8,7 @@ use Rattle.matcher_bands.specs.Centring.{contextFrames, radius}
 use Rattle.matcher_laws.proofs.Figures as matcher
 use Rattle.engine_spec.specs.Windows.{indexed, endpointOf, evidence, jumpsFrom, rereadsFrom}
 use Rattle.engine_spec.specs.Thresholds.{rereadMs}
-use Rattle.engine_spec.specs.Submitting.{submit, reread, computedFrom}
+use Rattle.engine_spec.specs.Submitting.{submit, reread, computedFrom, answeredFrom}
 use Rattle.engine_spec.specs.Figures.{P1, P2, P4, P6, Figures, ms10000, ms10089, ms10090, p1, p2, p3, p4, p5, p6, p7, p8, p9, p10, p11, p12}
 
 -- a tenth of a second less eleven is a re-reading, less ten is not
@@ -25,7 +25,7 @@ or-true true = refl
 or-true false = refl
 
 figure-1 : P1
-unfolding submit rereadsFrom reread computedFrom
+unfolding submit answeredFrom rereadsFrom reread computedFrom
 figure-1 = record {
   rereads = λ e i g h. rw (g .answered, g .last, g .snapshot, g .accepted, g .hop, g .no-jump, h, soon-10089, or-true (not (indexed (e .settings)))) refl;
   computes = λ e i g h. rw (g .answered, g .last, g .snapshot, g .hop, g .no-jump, h, late-10090) refl;

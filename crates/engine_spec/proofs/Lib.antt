@@ -18,4 +18,5 @@ pub mod Openings
 pub mod Submissions
 pub mod Struck
 pub mod Run
+pub mod Contract
 pub mod Figures

@@ -9,7 +9,7 @@ use Rattle.engine_spec.specs.Windows.{Window, endpointOf, rereads}
 use Rattle.engine_spec.specs.Refusals.{Submission, numberOf, refuses, handedRefusal, submissionRefusal}
 use Rattle.engine_spec.specs.Opening.{freshEngine}
 use Rattle.engine_spec.specs.Publishing.{Decision, decide}
-use Rattle.engine_spec.specs.Submitting.{reachedBy, lockFrom, decisionOn, reread, computedFrom, refused, submit}
+use Rattle.engine_spec.specs.Submitting.{reachedBy, lockFrom, decisionOn, reread, computedFrom, refused, answeredFrom, submit}
 use Rattle.engine_spec.specs.Chain.{Answered}
 use Rattle.engine_spec.specs.Guarantee.{answersTo, engineAfter, isComputed, remaining, Handed, AllHanded, nothing, next, answers, answerTo, toldBy}
 use Rattle.engine_spec.proofs.Effects.{Fair, trim}
@@ -107,7 +107,7 @@ rereads-is s e w g =
 
 -- every answer is of one of the three
 pub kind : (s : Settings) (m : Matcher) → Grounds s m → (e : Engine) (i : Submission) → Good s e → Handed s m i → Kind s m e i (submit e i)
-unfolding submit
+unfolding submit answeredFrom
 kind s m g e i good h =
     rw (refusal-is s e i good, rereads-is s e (i .window) good)
     (go (refuses (handedRefusal s i)) (rereads s (e .last .«endpoint_ms») (i .window)) refl refl)

@@ -22,7 +22,7 @@ use Rattle.matcher_laws.proofs.Bounds.{within-at-most}
 use Rattle.engine_spec.specs.Limits.{farthestMs, trackMost}
 use Rattle.engine_spec.specs.Thresholds.{samePlaceMs, supportCorrelation, supportRecent}
 use Rattle.engine_spec.specs.Windows.{Window, indexed, query, endpointOf, evidence, jumps, _after_}
-use Rattle.engine_spec.specs.Refusals.{Submission, within, near, hopInRange, validConfiguration, validSettings, trackNumber, validHypothesis, validSearchTime, validLock, validMilestone, validMilestones, validEndpoint, validEstimate, validLast, validEngine}
+use Rattle.engine_spec.specs.Refusals.{Submission, within, near, hopInRange, validConfiguration, validSettings, trackNumber, validHypothesis, validSearchTime, validLock, validMilestone, validMilestones, validEndpoint, validEstimate, validSnapshot, validLast, validEngine}
 use Rattle.engine_spec.specs.Opening.{noLock, noMilestones, freshEngine}
 use Rattle.engine_spec.specs.Readiness.{readiness, isNone}
 use Rattle.engine_spec.specs.Tracking.{samePlace, Tracked, mayCoast, supports, followed, tracked}
@@ -316,9 +316,11 @@ computed-safe e i d k n c y = record {
   lock = y .lock;
   milestones = stamp-valid (e .milestones) (d .reached) (i .clock) (k .milestones) c;
   last =
-      unfold validLast validEndpoint in
+      unfold validLast validSnapshot validEndpoint in
       and-i (near (endpointOf (i .window) .0)) _ n
-      (and-i (leb (length (d .found)) most) _ (le→leb (length (d .found)) most (y .few)) (estimate-valid (i .window) (bounded farthestMs _ (T-is _ n)) (d .verdict .offset) (y .offset)));
+      (and-i (leb (length (d .found)) most) _ (le→leb (length (d .found)) most (y .few))
+      (and-i (validEstimate (estimateAt (i .window) (d .verdict .offset))) _ (estimate-valid (i .window) (bounded farthestMs _ (T-is _ n)) (d .verdict .offset) (y .offset))
+      (stamp-valid (e .milestones) (d .reached) (i .clock) (k .milestones) c)));
 }
 
 -- ---- one step

@@ -1,7 +1,7 @@
 -- Opening (document 01, "What each operation refuses"; engine.rs, `Engine::new`). Definitions only.
 use mathlib.Core.Bool.{Bool, true, false, cond, not, _&&_}
 use lib.ListN.{length, getD, replicate}
-use lib.Ieee.{Float, nan, inf}
+use lib.Ieee.{Float, nan, inf, binary64, ofBits}
 use Rattle.numbers.specs.Arithmetic.{zero⁺}
 use Rattle.matcher_picks.specs.Peaks.{most}
 use Rattle.matcher.specs.Index.{Matcher, acceptsReference, matcherOf, filled}
@@ -70,6 +70,16 @@ blankSnapshot = record {
     };
   };
   milestones = noMilestones;
+}
+
+-- ---- the configuration that a unit starts with (types.rs, `Configuration::default`): durations of 2,500 and 2,000, energies of -70 and -62, a fraction of 0.35
+unfoldable pub defaultConfiguration : Configuration
+defaultConfiguration = record {
+  «minimum_readiness_duration_ms» = ofBits binary64 0x40a3880000000000;
+  «tracking_query_duration_ms» = ofBits binary64 0x409f400000000000;
+  «minimum_active_frame_energy_dbfs» = ofBits binary64 0xc051800000000000;
+  «minimum_average_energy_dbfs» = ofBits binary64 0xc04f000000000000;
+  «minimum_active_frame_fraction» = ofBits binary64 0x3fd6666666666666;
 }
 
 -- ---- the engine

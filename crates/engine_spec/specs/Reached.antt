@@ -10,10 +10,11 @@ use Rattle.matcher_laws.specs.Words.{Every, F32}
 use Rattle.engine_spec.specs.Windows.{Soundtrack, Index}
 use Rattle.engine_spec.specs.Refusals.{Submission, refuses, handedRefusal, submissionRefusal}
 use Rattle.engine_spec.specs.Opening.{opening, openedIndex, openedSettings, matcherOfFilm}
-use Rattle.engine_spec.specs.Guarantee.{answersTo, engineAfter, AllHanded, FilledWith, unanswered}
+use Rattle.engine_spec.specs.Guarantee.{answersTo, engineAfter, AllHanded, FilledWith, Promised, unanswered}
 use Rattle.engine_spec.specs.Windows.{indexed}
 use Rattle.engine_spec.specs.declared.types.Configuration.{Configuration}
 use Rattle.engine_spec.specs.declared.types.Engine.{Engine}
+use Rattle.engine_spec.specs.declared.types.Opened.{Opened}
 use Rattle.engine_spec.specs.declared.types.State.{State}
 use Rattle.engine_spec.specs.declared.types.State.the-variants as state
 use Rattle.engine_spec.specs.declared.types.Answer.the-variants as answer
@@ -53,3 +54,11 @@ abbrev pub OpenedFilled : Type 0
 OpenedFilled =
     (c : Configuration) (hop : Float) (film : Soundtrack) (x : Index) → opening c hop film x .answer ≡ answer.Opened → T (indexed (openedSettings c hop film))
     → FilledWith (matcherOfFilm hop film) (openedIndex c hop film x)
+
+-- ---- what opening's contract says of all that is submitted to what it opened
+-- The guarantee, that none of it is refused with 7, and that the buffers as opening leaves them are the index that the guarantee asks for. `r` is what opening gave, `filled` what the four buffers hold then.
+pub record Guaranteed (c : Configuration) (hop : Float) (film : Soundtrack) (filled : Index) (r : Opened) : Type 0 where
+  pub promised : r .answer ≡ answer.Opened → (l : List Submission) → AllHanded (openedSettings c hop film) (matcherOfFilm hop film) l → Promised (r .engine) (matcherOfFilm hop film) l
+  pub never-seven : r .answer ≡ answer.Opened → (l : List Submission) → AllHanded (openedSettings c hop film) (matcherOfFilm hop film) l
+      → (i : Submission) → submissionRefusal (engineAfter (r .engine) l) i ≡ handedRefusal (r .engine .settings) i
+  pub index : r .answer ≡ answer.Opened → T (indexed (openedSettings c hop film)) → FilledWith (matcherOfFilm hop film) filled

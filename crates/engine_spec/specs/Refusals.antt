@@ -19,6 +19,7 @@ use Rattle.engine_spec.specs.declared.types.Configuration.{Configuration
 use Rattle.engine_spec.specs.declared.types.Settings.{Settings}
 use Rattle.engine_spec.specs.declared.types.Lock.{Lock}
 use Rattle.engine_spec.specs.declared.types.Milestones.{Milestones}
+use Rattle.engine_spec.specs.declared.types.Snapshot.{Snapshot}
 use Rattle.engine_spec.specs.declared.types.Last.{Last}
 use Rattle.engine_spec.specs.declared.types.Engine.{Engine}
 use Rattle.engine_spec.specs.declared.types.Milestone.{Milestone}
@@ -154,11 +155,13 @@ unfoldable pub validEstimate : Estimate → Bool
 validEstimate estimate.Absent = true
 validEstimate (estimate.At recorded reference offset) = trackNumber (recorded .0) && (trackNumber (reference .0) && trackNumber offset)
 
+-- At most 8 candidates, and the estimate and the milestones of a state.
+unfoldable pub validSnapshot : Snapshot → Bool
+validSnapshot s = leb (s .diagnostics .«candidate_count») most && (validEstimate (s .estimate) && validMilestones (s .milestones))
+
 -- Where there is no last snapshot, nothing is asked of one.
 unfoldable pub validLast : Last → Bool
-validLast l =
-    validEndpoint (l .«endpoint_ms»)
-    && (not (l .«has_snapshot») || (leb (l .snapshot .diagnostics .«candidate_count») most && validEstimate (l .snapshot .estimate)))
+validLast l = validEndpoint (l .«endpoint_ms») && (not (l .«has_snapshot») || validSnapshot (l .snapshot))
 
 unfoldable pub validEngine : Engine → Bool
 validEngine e = validSettings (e .settings) && (validLock (e .lock) && (validMilestones (e .milestones) && validLast (e .last)))

@@ -100,8 +100,11 @@ abbrev pub refused : Engine → Answer → Submitted
 refused e r = record { answer = r; engine = e; snapshot = blankSnapshot }
 
 -- ---- submission
+-- What is not refused is re-read, where there is a last snapshot, or computed.
+unfoldable pub answeredFrom : Engine → Submission → Submitted
+answeredFrom e i =
+    cond (e .last .«has_snapshot» && rereads (e .settings) (e .last .«endpoint_ms») (i .window)) (reread e (i .window))
+    (computedFrom e i (decisionOn e i))
+
 unfoldable pub submit : Engine → Submission → Submitted
-submit e i =
-    cond (refuses (submissionRefusal e i)) (refused e (submissionRefusal e i))
-    (cond (e .last .«has_snapshot» && rereads (e .settings) (e .last .«endpoint_ms») (i .window)) (reread e (i .window))
-    (computedFrom e i (decisionOn e i)))
+submit e i = cond (refuses (submissionRefusal e i)) (refused e (submissionRefusal e i)) (answeredFrom e i)

@@ -1,22 +1,14 @@
--- put
-use Prim.Native.Nat.{ℕ, _+_, _-_, _≤_, _<_}
+-- `engine_readiness::count_active` meets its contract. Assumes nothing.
+use Prim.Native.Nat.{ℕ, _-_, _≤_}
 use native.Mathlib.Omega.{arith}
-use mathlib.Core.Path.{_≡_, refl, sym, ap, _∙_}
-use borrow.Author.Tests.{not-true, not-false}
-use borrow.Author.Needs.{needs}
+use mathlib.Core.Path.{_≡_, refl}
 use mathlib.Core.Logic.{⊎-elim}
-use lib.ListN.{length, getD}
-use lib.Ieee.{Float, nan, le, ofBits}
+use lib.ListN.{getD}
+use lib.Ieee.{Float, nan, le}
 use mathlib.Core.List.{List}
 use mathlib.Core.Bool.{Bool}
-use Rattle.matcher_bands.specs.Rows.{sumTo}
-use Rattle.matcher_bands.proofs.RowLaws.{sum-more}
-use Rattle.numbers.specs.Arithmetic.{_⊘_}
-use Rattle.numbers.specs.Exponential.{tenTo}
-use Rattle.engine_spec.specs.Thresholds.{ten}
-use Rattle.engine_spec.specs.Readiness.{tally, isNone, activeFraction, averageEnergy, meanPower, readiness}
+use Rattle.engine_spec.specs.Readiness.{tally}
 use Rattle.engine_readiness.proofs.TallyLaws.{tally-yes, tally-no}
--- end
 use Rattle.engine_readiness.proofs.count_active.Statement.{statement}
 use Rattle.engine_readiness.proofs.count_active.Tie as tie
 
@@ -29,14 +21,12 @@ Inv-loop energies threshold n active₀ i₀ active i = (i ≤ n) × (active ≤
 abbrev μ-loop : tie.MeasureT-loop
 μ-loop energies threshold n active₀ i₀ active i = n - i
 
--- src/lib.rt:30:5
 loop-holds : tie.Need-loop-holds Inv-loop μ-loop
 unfolding tally
 loop-holds c = (omega arith, omega arith, refl)
 
--- src/lib.rt:30:5
 loop-again : tie.Need-loop-again Inv-loop μ-loop
-loop-again c = 
+loop-again c =
     let at = c .before .before .before in
     let p = active? (at .before .args .threshold) (at .before .args .energies .now) in
     ⊎-elim
@@ -44,9 +34,8 @@ loop-again c =
     (λ v. (omega arith, rw (v .1) (omega arith), rw (v .1) (tally-no p (at .loop .i) (at .loop .inv .2) (v .0 .left))))
     (c .if1 .came)
 
--- src/lib.rt:24:1
 returns : tie.Need-returns Inv-loop μ-loop
-returns c = 
+returns c =
     let at = c .before in
     let e : at .loop .i ≡ at .before .args .n = omega arith in
     rw e at (at .loop .inv .2)

@@ -1,22 +1,15 @@
--- put
-use Prim.Native.Nat.{ℕ, _+_, _-_, _≤_, _<_}
+-- `engine_readiness::power_sum` meets its contract. Assumes nothing.
+use Prim.Native.Nat.{ℕ, _-_, _≤_}
 use native.Mathlib.Omega.{arith}
-use mathlib.Core.Path.{_≡_, refl, sym, ap, _∙_}
-use borrow.Author.Tests.{not-true, not-false}
-use borrow.Author.Needs.{needs}
-use mathlib.Core.Logic.{⊎-elim}
-use lib.ListN.{length, getD}
-use lib.Ieee.{Float, nan, le, ofBits}
+use mathlib.Core.Path.{_≡_, refl}
+use lib.ListN.{getD}
+use lib.Ieee.{Float, nan, ofBits}
 use mathlib.Core.List.{List}
-use mathlib.Core.Bool.{Bool}
 use Rattle.matcher_bands.specs.Rows.{sumTo}
 use Rattle.matcher_bands.proofs.RowLaws.{sum-more}
 use Rattle.numbers.specs.Arithmetic.{_⊘_}
 use Rattle.numbers.specs.Exponential.{tenTo}
 use Rattle.engine_spec.specs.Thresholds.{ten}
-use Rattle.engine_spec.specs.Readiness.{tally, isNone, activeFraction, averageEnergy, meanPower, readiness}
-use Rattle.engine_readiness.proofs.TallyLaws.{tally-yes, tally-no}
--- end
 use Rattle.engine_readiness.proofs.power_sum.Statement.{statement}
 use Rattle.engine_readiness.proofs.power_sum.Tie as tie
 
@@ -29,20 +22,17 @@ Inv-loop energies n sum₀ i₀ sum i = (i ≤ n) × (sum ≡ sumTo (power energ
 abbrev μ-loop : tie.MeasureT-loop
 μ-loop energies n sum₀ i₀ sum i = n - i
 
--- src/lib.rt:70:5
 loop-holds : tie.Need-loop-holds Inv-loop μ-loop
 unfolding sumTo ofBits
 loop-holds c = (omega arith, refl)
 
--- src/lib.rt:70:5
 loop-again : tie.Need-loop-again Inv-loop μ-loop
-loop-again c = 
+loop-again c =
     let at = c .before .before in
     (omega arith, sum-more (power (c .before .before .before .before .args .energies .now)) (at .loop .i) (at .loop .inv .1) (c .power-at .ensures))
 
--- src/lib.rt:64:1
 returns : tie.Need-returns Inv-loop μ-loop
-returns c = 
+returns c =
     let at = c .before in
     let e : at .loop .i ≡ c .before .before .before .args .n = omega arith in
     rw e at (at .loop .inv .1)

@@ -1,50 +1,19 @@
--- put
-use mathlib.Core.List.{[]}
-use native.Mathlib.Nat.{le-of-eq}
-use mathlib.Core.Bool.{Bool, true, false, true≢false}
-use mathlib.Core.Path.{_≡_, refl, sym, ap, _∙_}
+-- `engine::fresh::fresh_engine` meets its contract. Assumes nothing.
+use mathlib.Core.Path.{refl}
 use borrow.Author.Needs.{needs}
-use borrow.Author.Tests.{not-true, not-false, eq-eqb, ne-eqb}
-use lib.Ieee.{Float, ofBits, div, neg}
-use lib.ListN.{length}
-use Rattle.engine_spec.specs.Windows.{jumpsFrom, rereadsFrom, matcherIn}
-use Rattle.engine_spec.specs.Refusals.{refuses, Submission}
-use Rattle.engine_spec.specs.Opening.{blankSnapshot, freshEngine, noEngine}
-use Rattle.engine_spec.specs.Publishing as publishing
-use Rattle.engine_spec.specs.Publishing.{decide}
-use Rattle.engine_spec.specs.Locking as locking
-use Rattle.engine_spec.specs.Submitting.{stamp, reread, computedFrom, decisionOn, lockFrom, reachedBy, submit}
-use Rattle.engine_spec.specs.SupportAge.{isLocked, supportAge}
-use Rattle.engine_spec.specs.declared.types.Lock.{Lock}
-use Rattle.engine_spec.specs.declared.types.Submitted.{Submitted}
-use Rattle.engine_spec.specs.Lent.{lent, window, handed}
-use Rattle.engine_lock.specs.Views.{reachedIn}
-use Rattle.engine_snapshot.specs.Decided.{decisionIn}
-use Rattle.engine.proofs.RoomLaw.{room}
-use Rattle.engine.proofs.AnswerLaws.{not-not-is, computed-is, submit-refused, submit-answered, answered-unrefused, answers-again, answers-computed}
--- end
-use borrow.Author.Needs.{needs}
+use Rattle.engine_spec.specs.Opening.{freshEngine}
 use Rattle.engine.proofs.fresh.fresh_engine.Statement.{statement}
 use Rattle.engine.proofs.fresh.fresh_engine.Tie as tie
-use Rattle.engine.proofs.fresh.fresh_engine.Reads as reads
-use Rattle.engine.proofs.fresh.fresh_engine.Lts as lts
-use Rattle.engine.proofs.fresh.blank_snapshot.Reads as blank-snapshot-reads
-use Rattle.engine.proofs.fresh.no_lock.Reads as no-lock-reads
-use Rattle.engine.proofs.fresh.no_milestones.Reads as no-milestones-reads
 
--- src/fresh.rt:110:9
 no-lock-requires : tie.Need-no-lock-requires
 no-lock-requires c κs = search needs
 
--- src/fresh.rt:111:9
 no-milestones-requires : tie.Need-no-milestones-requires
 no-milestones-requires c κs = search needs
 
--- src/fresh.rt:112:9
 blank-snapshot-requires : tie.Need-blank-snapshot-requires
 blank-snapshot-requires c κs = search needs
 
--- src/fresh.rt:107:1
 returns : tie.Need-returns
 unfolding freshEngine
 returns c = rw (c .before .before .no-lock .ensures, c .before .no-milestones .ensures, c .blank-snapshot .ensures) refl

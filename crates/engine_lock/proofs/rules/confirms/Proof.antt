@@ -1,9 +1,9 @@
-use Rattle.engine_spec.specs.Locking.{confirms}
+-- `engine_lock::rules::confirms` meets its contract. Assumes nothing.
 use mathlib.Core.Path.{refl}
+use Rattle.engine_spec.specs.Locking.{confirms}
 use Rattle.engine_lock.proofs.rules.confirms.Statement.{statement}
 use Rattle.engine_lock.proofs.rules.confirms.Tie as tie
 
--- src/rules.rt:111:1
 returns : tie.Need-returns
 unfolding confirms
 returns c = refl

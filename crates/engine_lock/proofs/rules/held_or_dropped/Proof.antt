@@ -1,19 +1,17 @@
-use Rattle.engine_spec.specs.Locking.{heldOrDropped}
+-- `engine_lock::rules::held_or_dropped` meets its contract. Assumes nothing.
 use borrow.Author.Needs.{needs}
+use Rattle.engine_spec.specs.Locking.{heldOrDropped}
 use Rattle.engine_lock.proofs.rules.held_or_dropped.Statement.{statement}
 use Rattle.engine_lock.proofs.rules.held_or_dropped.Tie as tie
 
--- src/rules.rt:90:1
 returns : tie.Need-returns
 unfolding heldOrDropped
 returns c = simp (c .enum-told .given .1)
 
--- src/rules.rt:90:1
 returns-2 : tie.Need-returns-2
 unfolding heldOrDropped
 returns-2 c = simp (c .before .before .before .pending .given .1, ← (c .before .holds .ensures), c .if1 .taken)
 
--- src/rules.rt:90:1
 returns-3 : tie.Need-returns-3
 unfolding heldOrDropped
 returns-3 c = simp (c .before .before .before .pending .given .1, ← (c .before .holds .ensures), c .if1 .left)

@@ -1,21 +1,14 @@
--- put
-use Prim.Native.Nat.{_+_}
-use native.Mathlib.Omega.{arith}
-use mathlib.Core.Path.{_≡_, refl, sym, ap, _∙_}
-use borrow.Author.Tests.{not-true, not-false}
-use Rattle.engine_lock.proofs.LockLaws.{passing-is, passing-some, holds-is, not-followed, followed-none, followed-best, coasting, dropped, whole-not-passed, whole-passed, chain-confirmed, no-nan, nan-passed}
-use Rattle.engine_spec.specs.Locking.{passed}
--- end
+-- `engine_lock::rules::passed` meets its contract. Assumes nothing.
+use mathlib.Core.Path.{refl}
 use borrow.Author.Needs.{needs}
+use Rattle.engine_spec.specs.Locking.{passed}
 use Rattle.engine_lock.proofs.rules.passed.Statement.{statement}
 use Rattle.engine_lock.proofs.rules.passed.Tie as tie
 
--- src/rules.rt:200:9
 returns : tie.Need-returns
 unfolding passed
 returns c = (simp (← (c .before .before .before .before .evidence .ensures), ← (c .before .before .before .confirms .ensures), c .before .before .if1 .taken, ← (c .before .kept-or-replaced .ensures), ← (c .after-chain .ensures), ← (c .before .before .before .before .before .pre)), refl)
 
--- src/rules.rt:170:1
 returns-2 : tie.Need-returns-2
 unfolding passed
 returns-2 c = (simp (← (c .before .before .before .evidence .ensures), ← (c .before .before .confirms .ensures), c .before .if1 .left, ← (c .after-passing .ensures), ← (c .before .before .before .before .pre)), refl)

@@ -32,20 +32,19 @@ use Rattle.engine_lock.proofs.search.searched.Tie as tie
 
 -- src/search.rt:137:9
 returns : tie.Need-returns
-returns c = 
+returns c =
     let a = c .before .before .before .before .before .before .before .before .before .before .before .before .before .before .before .before .before .before .before .before .before .args in
     let room = c .before .before .before .before .before .before .before .before .before .before .before .before .before .before .before .before .before .before .before .before .before .pre .0 in
     let s = a .settings in
     let x = lent (a .fine .now) (a .coarse .now) (a .fine-squares .now) (a .coarse-squares .now) in
-    let w = window (a .bands) (a .times .now) (a .energies .now) (a .values .now) in
-    (
+    let w = window (a .bands) (a .times .now) (a .energies .now) (a .values .now) in (
       c .locally-searched .ensures .0 ∙ not-due (matcherIn s x) (s .«hop_ms») w (reachedIn (a .reached)) (a .lock) (c .before .before .before .before .before .before .before .tracked .ensures .0) (sym (c .before .before .is-whole-due .ensures) ∙ not-true _ (c .before .if1 .taken)),
       rw (c .locally-searched .ensures .1) (c .before .before .before .before .before .before .before .tracked .ensures .1),
     )
 
 -- src/search.rt:139:9
 whole-search-requires : tie.Need-whole-search-requires
-whole-search-requires c κs = 
+whole-search-requires c κs =
     let a = c .before .before .before .before .before .before .before .before .before .before .before .before .before .before .before .before .before .before .before .before .before .before .before .args in
     let room = c .before .before .before .before .before .before .before .before .before .before .before .before .before .before .before .before .before .before .before .before .before .before .before .pre .0 in
     let s = a .settings in
@@ -68,16 +67,15 @@ same-length-4 c = c .before .before .before .before .before .whole-search .kept 
 
 -- src/search.rt:98:1
 returns-2 : tie.Need-returns-2
-returns-2 c = 
+returns-2 c =
     let a = c .before .before .before .before .before .before .before .before .before .before .before .before .before .before .before .before .before .before .before .before .before .before .before .before .before .before .before .before .before .args in
     let room = c .before .before .before .before .before .before .before .before .before .before .before .before .before .before .before .before .before .before .before .before .before .before .before .before .before .before .before .before .before .pre .0 in
     let s = a .settings in
     let x = lent (a .fine .now) (a .coarse .now) (a .fine-squares .now) (a .coarse-squares .now) in
     let w = window (a .bands) (a .times .now) (a .energies .now) (a .values .now) in
-    let q = rw (c .before .before .before .before .before .before .before .before .reference-of .ensures) at (c .before .before .before .before .before .whole-search .ensures) in
-    (
+    let q = rw (c .before .before .before .before .before .before .before .before .reference-of .ensures) at (c .before .before .before .before .before .whole-search .ensures) in (
       c .whole-searched .ensures .0
-      ∙ due (matcherIn s x) (s .«hop_ms») w (reachedIn (a .reached)) (a .lock) (c .before .before .before .before .before .before .before .before .before .before .before .before .before .before .before .tracked .ensures .0) q (sym (c .before .before .before .before .before .before .before .before .before .before .is-whole-due .ensures) ∙ not-false _ (c .before .before .before .before .before .before .before .before .before .if1 .left)),
+          ∙ due (matcherIn s x) (s .«hop_ms») w (reachedIn (a .reached)) (a .lock) (c .before .before .before .before .before .before .before .before .before .before .before .before .before .before .before .tracked .ensures .0) q (sym (c .before .before .before .before .before .before .before .before .before .before .is-whole-due .ensures) ∙ not-false _ (c .before .before .before .before .before .before .before .before .before .if1 .left)),
       found-few (wholeSearch _ _) (c .whole-searched .ensures .1 ∙ c .before .before .before .before .before .whole-search .ensures) (at-most-eight _ _),
     )
 

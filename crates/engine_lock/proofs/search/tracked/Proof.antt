@@ -31,23 +31,22 @@ use Rattle.engine_lock.proofs.search.tracked.Tie as tie
 
 -- src/search.rt:71:17
 returns : tie.Need-returns
-returns c = 
+returns c =
     let a = c .before .before .before .before .before .before .before .before .before .before .before .before .before .before .before .before .before .before .args in
     let room = c .before .before .before .before .before .before .before .before .before .before .before .before .before .before .before .before .before .before .pre .0 in
     let s = a .settings in
     let x = lent (a .fine .now) (a .coarse .now) (a .fine-squares .now) (a .coarse-squares .now) in
     let w = window (a .bands) (a .times .now) (a .energies .now) (a .values .now) in
-    let e = sym (evidence-ending (s .«hop_ms») w) ∙ sym (c .before .before .before .before .before .before .before .evidence .ensures) in
-    (
+    let e = sym (evidence-ending (s .«hop_ms») w) ∙ sym (c .before .before .before .before .before .before .before .evidence .ensures) in (
       rw (c .before .before .before .before .before .accepted .given .1)
-      (c .unsupported2 .ensures .0 ∙ ap (λ (l : List Candidate). unsupported hypothesis.Absent l) (listed-result [] (c .before .nothing-found2 .ensures))
-      ∙ dropped _ _ _ _ _ (matcherIn s x) (s .«hop_ms») w e (sym (c .before .before .before .may-coast .ensures) ∙ not-true _ (c .before .before .if1 .taken))),
+          (c .unsupported2 .ensures .0 ∙ ap (λ (l : List Candidate). unsupported hypothesis.Absent l) (listed-result [] (c .before .nothing-found2 .ensures))
+          ∙ dropped _ _ _ _ _ (matcherIn s x) (s .«hop_ms») w e (sym (c .before .before .before .may-coast .ensures) ∙ not-true _ (c .before .before .if1 .taken))),
       found-few [] (c .unsupported2 .ensures .1 ∙ c .before .nothing-found2 .ensures) (lit≤ tt),
     )
 
 -- src/search.rt:73:17
 local-search-requires : tie.Need-local-search-requires
-local-search-requires c κs = 
+local-search-requires c κs =
     let a = c .before .before .before .before .before .before .before .before .before .before .before .before .before .before .before .before .before .before .before .args in
     let room = c .before .before .before .before .before .before .before .before .before .before .before .before .before .before .before .before .before .before .before .pre .0 in
     let s = a .settings in
@@ -64,23 +63,22 @@ followed-requires c κs = found-few (localSearch _ _ _ _ _) (c .before .before .
 returns-2 : tie.Need-returns-2
 unfolding tracked
 returns-2 c = (
-      rw (c .before .before .enum-told .given .1) (c .unsupported .ensures .0 ∙ ap (λ (l : List Candidate). unsupported hypothesis.Absent l) (listed-result [] (c .before .nothing-found .ensures))),
-      found-few [] (c .unsupported .ensures .1 ∙ c .before .nothing-found .ensures) (lit≤ tt),
-    )
+  rw (c .before .before .enum-told .given .1) (c .unsupported .ensures .0 ∙ ap (λ (l : List Candidate). unsupported hypothesis.Absent l) (listed-result [] (c .before .nothing-found .ensures))),
+  found-few [] (c .unsupported .ensures .1 ∙ c .before .nothing-found .ensures) (lit≤ tt),
+)
 
 -- src/search.rt:42:1
 returns-3 : tie.Need-returns-3
-returns-3 c = 
+returns-3 c =
     let a = c .before .before .before .before .before .before .before .before .before .before .before .before .before .before .before .before .before .before .before .before .before .before .before .before .before .args in
     let room = c .before .before .before .before .before .before .before .before .before .before .before .before .before .before .before .before .before .before .before .before .before .before .before .before .before .pre .0 in
     let s = a .settings in
     let x = lent (a .fine .now) (a .coarse .now) (a .fine-squares .now) (a .coarse-squares .now) in
     let w = window (a .bands) (a .times .now) (a .energies .now) (a .values .now) in
     let e = sym (evidence-ending (s .«hop_ms») w) ∙ sym (c .before .before .before .before .before .before .before .before .before .before .before .before .before .before .evidence .ensures) in
-    let q = rw (c .before .before .before .before .before .before .before .before .reference-of .ensures) at (c .before .before .before .before .before .local-search .ensures) in
-    (
+    let q = rw (c .before .before .before .before .before .before .before .before .reference-of .ensures) at (c .before .before .before .before .before .local-search .ensures) in (
       rw (c .before .before .before .before .before .before .before .before .before .before .before .before .accepted .given .1)
-      (c .followed .ensures .0 ∙ coasted _ _ _ _ _ (matcherIn s x) (s .«hop_ms») w e q (sym (c .before .before .before .before .before .before .before .before .before .before .may-coast .ensures) ∙ not-false _ (c .before .before .before .before .before .before .before .before .before .if1 .left))),
+          (c .followed .ensures .0 ∙ coasted _ _ _ _ _ (matcherIn s x) (s .«hop_ms») w e q (sym (c .before .before .before .before .before .before .before .before .before .before .may-coast .ensures) ∙ not-false _ (c .before .before .before .before .before .before .before .before .before .if1 .left))),
       found-few (localSearch _ _ _ _ _) (c .followed .ensures .1 ∙ c .before .before .before .before .before .local-search .ensures) (local-few _ _ _ _ _),
     )
 

@@ -1,9 +1,9 @@
-use Rattle.engine_spec.specs.Windows.{evidence}
+-- `engine_lock::track::evidence` meets its contract. Assumes nothing.
 use borrow.Author.Needs.{needs}
+use Rattle.engine_spec.specs.Windows.{evidence}
 use Rattle.engine_lock.proofs.track.evidence.Statement.{statement}
 use Rattle.engine_lock.proofs.track.evidence.Tie as tie
 
--- src/track.rt:22:1
 returns : tie.Need-returns
 unfolding evidence
 returns c = simp (← (c .before .context-frames .ensures))

@@ -1,12 +1,10 @@
--- put
+-- `engine_lock::track::gain` meets its contract. Assumes nothing.
 use lib.Ieee.{ofBits}
-use Rattle.engine_spec.specs.Tracking.{gain}
--- end
 use borrow.Author.Needs.{needs}
+use Rattle.engine_spec.specs.Tracking.{gain}
 use Rattle.engine_lock.proofs.track.gain.Statement.{statement}
 use Rattle.engine_lock.proofs.track.gain.Tie as tie
 
--- src/track.rt:46:1
 returns : tie.Need-returns
 unfolding gain ofBits
 returns c = cc

@@ -1,9 +1,9 @@
-use Rattle.engine_spec.specs.Tracking.{movedOffset}
+-- `engine_lock::track::moved_offset` meets its contract. Assumes nothing.
 use borrow.Author.Needs.{needs}
+use Rattle.engine_spec.specs.Tracking.{movedOffset}
 use Rattle.engine_lock.proofs.track.moved_offset.Statement.{statement}
 use Rattle.engine_lock.proofs.track.moved_offset.Tie as tie
 
--- src/track.rt:52:1
 returns : tie.Need-returns
 unfolding movedOffset
 returns c = simp (← (c .before .gain .ensures))

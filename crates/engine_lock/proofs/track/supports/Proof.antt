@@ -1,9 +1,9 @@
-use Rattle.engine_spec.specs.Tracking.{supports}
+-- `engine_lock::track::supports` meets its contract. Assumes nothing.
 use borrow.Author.Needs.{needs}
+use Rattle.engine_spec.specs.Tracking.{supports}
 use Rattle.engine_lock.proofs.track.supports.Statement.{statement}
 use Rattle.engine_lock.proofs.track.supports.Tie as tie
 
--- src/track.rt:40:1
 returns : tie.Need-returns
 unfolding supports
 returns c = simp (← (c .is-same-place .ensures))

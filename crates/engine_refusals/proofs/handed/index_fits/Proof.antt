@@ -1,12 +1,14 @@
-use mathlib.Core.Path.{refl}
 -- `engine_refusals::handed::index_fits` meets its contract. Assumes nothing.
-use Prim.Native.Nat.{ℕ, _+_, _*_, _/_, _≤_}
+use mathlib.Core.Path.{refl}
+use Prim.Native.Nat.{_+_, _/_}
 use native.Mathlib.Omega.{arith}
 use borrow.Author.Needs.{needs}
 use Rattle.engine_spec.specs.Refusals.{indexFits}
 use Rattle.engine_refusals.proofs.TestLaws.{few}
 use Rattle.engine_refusals.proofs.handed.index_fits.Statement.{statement}
 use Rattle.engine_refusals.proofs.handed.index_fits.Tie as tie
+
+-- `engine_refusals::handed::index_fits` meets its contract. Assumes nothing.
 
 mul-result : tie.Need-mul-result
 mul-result c = omega (arith, few (c .args .bands) (c .args .frames) 65535 65535 (omega arith) (omega arith))

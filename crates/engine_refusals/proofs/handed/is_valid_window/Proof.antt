@@ -1,16 +1,15 @@
+-- `engine_refusals::handed::is_valid_window` meets its contract. Assumes nothing.
 use lib.ListN.{length}
 use native.Mathlib.Omega.{arith}
-use Rattle.engine_refusals.proofs.TestLaws.{few}
-use Rattle.engine_spec.specs.Refusals.{validWindow}
 use borrow.Author.Needs.{needs}
+use Rattle.engine_spec.specs.Refusals.{validWindow}
+use Rattle.engine_refusals.proofs.TestLaws.{few}
 use Rattle.engine_refusals.proofs.handed.is_valid_window.Statement.{statement}
 use Rattle.engine_refusals.proofs.handed.is_valid_window.Tie as tie
 
--- src/handed.rt:102:62
 mul-result : tie.Need-mul-result
 mul-result c = omega (arith, few (c .before .before .before .args .bands) (length (c .before .before .before .args .times .now)) 64 1024 (omega arith) (omega arith))
 
--- src/handed.rt:97:1
 returns : tie.Need-returns
 unfolding validWindow
 returns c = simp (← (c .are-valid .ensures))

@@ -1,48 +1,42 @@
+-- `engine_refusals::handed::opening_refusal` meets its contract. Assumes nothing.
 use native.Mathlib.Nat.{le-trans}
 use lib.Dec.{lit≤}
 use lib.ListN.{length}
 use mathlib.Core.Path.{sym, _∙_}
-use borrow.Author.Tests.{not-true, not-false, eq-eqb, ne-eqb, lt-leb, le-leb}
+use borrow.Author.Tests.{not-true, not-false, eq-eqb, ne-eqb}
 use native.Mathlib.Omega.{arith}
-use Rattle.engine_spec.specs.Refusals.{handedRefusal, openingRefusal, submissionRefusal}
-use Rattle.engine_refusals.proofs.TestLaws.{few, counted}
 use borrow.Author.Needs.{needs}
+use Rattle.engine_spec.specs.Refusals.{openingRefusal}
+use Rattle.engine_refusals.proofs.TestLaws.{few, counted}
 use Rattle.engine_refusals.proofs.handed.opening_refusal.Statement.{statement}
 use Rattle.engine_refusals.proofs.handed.opening_refusal.Tie as tie
 
--- src/handed.rt:77:9
 returns : tie.Need-returns
 unfolding openingRefusal
 returns c = simp (← (c .before .is-valid-configuration .ensures), not-true (c .before .is-valid-configuration .result) (c .if1 .taken))
 
--- src/handed.rt:80:9
 returns-2 : tie.Need-returns-2
 unfolding openingRefusal
 returns-2 c = simp (← (c .before .before .before .is-valid-configuration .ensures), not-false (c .before .before .before .is-valid-configuration .result) (c .before .before .if1 .left), ← (c .before .is-hop .ensures), not-true (c .before .is-hop .result) (c .if2 .taken))
 
--- src/handed.rt:83:9
 returns-3 : tie.Need-returns-3
 unfolding openingRefusal
 returns-3 c = simp (← (c .before .before .before .before .before .is-valid-configuration .ensures), not-false (c .before .before .before .before .before .is-valid-configuration .result) (c .before .before .before .before .if1 .left), ← (c .before .before .before .is-hop .ensures), not-false (c .before .before .before .is-hop .result) (c .before .before .if2 .left), ← (c .before .are-counts .ensures), not-true (c .before .are-counts .result) (c .if3 .taken))
 
--- src/handed.rt:85:24
 mul-if4 : tie.Need-mul-if4
 mul-if4 c =
     let start = c .before .before .before .before .before .before .before .before .before .before .before .before in
     let k = counted (length (start .args .times .now)) (start .args .bands) (sym (c .before .are-counts .ensures) ∙ not-false (c .before .are-counts .result) (c .if3 .left)) in
     omega (arith, few (start .args .bands) (length (start .args .times .now)) 64 65535 (k .bands) (k .frames))
 
--- src/handed.rt:86:9
 returns-4 : tie.Need-returns-4
 unfolding openingRefusal
 returns-4 c = simp (← (c .before .before .before .before .before .before .is-valid-configuration .ensures), not-false (c .before .before .before .before .before .before .is-valid-configuration .result) (c .before .before .before .before .before .if1 .left), ← (c .before .before .before .before .is-hop .ensures), not-false (c .before .before .before .before .is-hop .result) (c .before .before .before .if2 .left), ← (c .before .before .are-counts .ensures), not-false (c .before .before .are-counts .result) (c .before .if3 .left), ne-eqb _ _ (c .if4 .taken))
 
--- src/handed.rt:89:9
 returns-5 : tie.Need-returns-5
 unfolding openingRefusal
 returns-5 c = simp (← (c .before .before .before .before .before .before .before .before .is-valid-configuration .ensures), not-false (c .before .before .before .before .before .before .before .before .is-valid-configuration .result) (c .before .before .before .before .before .before .before .if1 .left), ← (c .before .before .before .before .before .before .is-hop .ensures), not-false (c .before .before .before .before .before .before .is-hop .result) (c .before .before .before .before .before .if2 .left), ← (c .before .before .before .before .are-counts .ensures), not-false (c .before .before .before .before .are-counts .result) (c .before .before .before .if3 .left), eq-eqb _ _ (c .before .before .if4 .left), ← (c .before .are-near-or-not-finite .ensures), not-true (c .before .are-near-or-not-finite .result) (c .if5 .taken))
 
--- src/handed.rt:91:9
 index-fits-requires : tie.Need-index-fits-requires
 index-fits-requires c κs =
     let at = c .before .before .before in
@@ -50,12 +44,10 @@ index-fits-requires c κs =
     let k = counted (length (start .args .times .now)) (start .args .bands) (sym (at .before .are-counts .ensures) ∙ not-false (at .before .are-counts .result) (at .if3 .left)) in
     (k .frames, le-trans (k .bands) (lit≤ tt))
 
--- src/handed.rt:92:9
 returns-6 : tie.Need-returns-6
 unfolding openingRefusal
 returns-6 c = simp (← (c .before .before .before .before .before .before .before .before .before .before .is-valid-configuration .ensures), not-false (c .before .before .before .before .before .before .before .before .before .before .is-valid-configuration .result) (c .before .before .before .before .before .before .before .before .before .if1 .left), ← (c .before .before .before .before .before .before .before .before .is-hop .ensures), not-false (c .before .before .before .before .before .before .before .before .is-hop .result) (c .before .before .before .before .before .before .before .if2 .left), ← (c .before .before .before .before .before .before .are-counts .ensures), not-false (c .before .before .before .before .before .before .are-counts .result) (c .before .before .before .before .before .if3 .left), eq-eqb _ _ (c .before .before .before .before .if4 .left), ← (c .before .before .before .are-near-or-not-finite .ensures), not-false (c .before .before .before .are-near-or-not-finite .result) (c .before .before .if5 .left), ← (c .before .index-fits .ensures), not-true (c .before .index-fits .result) (c .if6 .taken))
 
--- src/handed.rt:62:1
 returns-7 : tie.Need-returns-7
 unfolding openingRefusal
 returns-7 c = simp (← (c .before .before .before .before .before .before .before .before .before .before .is-valid-configuration .ensures), not-false (c .before .before .before .before .before .before .before .before .before .before .is-valid-configuration .result) (c .before .before .before .before .before .before .before .before .before .if1 .left), ← (c .before .before .before .before .before .before .before .before .is-hop .ensures), not-false (c .before .before .before .before .before .before .before .before .is-hop .result) (c .before .before .before .before .before .before .before .if2 .left), ← (c .before .before .before .before .before .before .are-counts .ensures), not-false (c .before .before .before .before .before .before .are-counts .result) (c .before .before .before .before .before .if3 .left), eq-eqb _ _ (c .before .before .before .before .if4 .left), ← (c .before .before .before .are-near-or-not-finite .ensures), not-false (c .before .before .before .are-near-or-not-finite .result) (c .before .before .if5 .left), ← (c .before .index-fits .ensures), not-false (c .before .index-fits .result) (c .if6 .left))

@@ -1,25 +1,22 @@
+-- `engine_refusals::handed::work_fits` meets its contract. Assumes nothing.
 use Prim.Native.Nat.{_+_, _*_}
 use native.Mathlib.Omega.{arith}
-use Rattle.engine_refusals.proofs.TestLaws.{few}
-use Rattle.engine_spec.specs.Refusals.{workFits}
 use mathlib.Core.Path.{refl}
 use borrow.Author.Needs.{needs}
+use Rattle.engine_spec.specs.Refusals.{workFits}
+use Rattle.engine_refusals.proofs.TestLaws.{few}
 use Rattle.engine_refusals.proofs.handed.work_fits.Statement.{statement}
 use Rattle.engine_refusals.proofs.handed.work_fits.Tie as tie
 
--- src/handed.rt:115:6
 mul-result-2 : tie.Need-mul-result-2
 mul-result-2 c = omega (arith, few (2 * c .args .bands) (c .args .frames) 128 1024 (omega arith) (omega arith))
 
--- src/handed.rt:115:39
 mul-result-4 : tie.Need-mul-result-4
 mul-result-4 c = omega (arith, few (3 * c .args .bands) (c .args .frames + 1) 192 1025 (omega arith) (omega arith))
 
--- src/handed.rt:115:39
 add-result-2 : tie.Need-add-result-2
 add-result-2 c = omega (arith, few (3 * c .args .bands) (c .args .frames + 1) 192 1025 (omega arith) (omega arith))
 
--- src/handed.rt:105:1
 returns : tie.Need-returns
 unfolding workFits
 returns c = refl

@@ -1,9 +1,9 @@
-use Rattle.engine_spec.specs.Refusals.{validEngine}
+-- `engine_refusals::states::is_valid_engine` meets its contract. Assumes nothing.
 use borrow.Author.Needs.{needs}
+use Rattle.engine_spec.specs.Refusals.{validEngine}
 use Rattle.engine_refusals.proofs.states.is_valid_engine.Statement.{statement}
 use Rattle.engine_refusals.proofs.states.is_valid_engine.Tie as tie
 
--- src/states.rt:147:1
 returns : tie.Need-returns
 unfolding validEngine
 returns c = simp (← (c .before .before .before .is-valid-settings .ensures), ← (c .before .before .is-valid-lock .ensures), ← (c .before .are-valid-milestones .ensures), ← (c .is-valid-last .ensures))

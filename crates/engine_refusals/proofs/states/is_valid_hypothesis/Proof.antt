@@ -1,14 +1,13 @@
-use Rattle.engine_spec.specs.Refusals.{validHypothesis}
+-- `engine_refusals::states::is_valid_hypothesis` meets its contract. Assumes nothing.
 use borrow.Author.Needs.{needs}
+use Rattle.engine_spec.specs.Refusals.{validHypothesis}
 use Rattle.engine_refusals.proofs.states.is_valid_hypothesis.Statement.{statement}
 use Rattle.engine_refusals.proofs.states.is_valid_hypothesis.Tie as tie
 
--- src/states.rt:61:1
 returns : tie.Need-returns
 unfolding validHypothesis
 returns c = simp (c .enum-told .given .1)
 
--- src/states.rt:61:1
 returns-2 : tie.Need-returns-2
 unfolding validHypothesis
 returns-2 c = simp (c .before .before .before .before .before .h .given .1, ← (c .before .before .before .is-track-number .ensures), ← (c .before .before .is-track-number2 .ensures), ← (c .before .is-track-number3 .ensures), ← (c .is-track-number4 .ensures))

@@ -1,12 +1,12 @@
-use Rattle.engine_spec.specs.Refusals.{validLast}
+-- `engine_refusals::states::is_valid_last` meets its contract. Assumes nothing.
 use borrow.Author.Needs.{needs}
+use Rattle.engine_spec.specs.Refusals.{validLast}
 use Rattle.engine_refusals.proofs.states.is_valid_last.Statement.{statement}
 use Rattle.engine_refusals.proofs.states.is_valid_last.Tie as tie
 
--- src/states.rt:137:1
 returns : tie.Need-returns
 unfolding validLast
-returns c = simp (← (c .before .before .is-valid-endpoint .ensures), ← (c .is-valid-estimate .ensures))
+returns c = simp (← (c .before .before .is-valid-endpoint .ensures), ← (c .is-valid-snapshot .ensures))
 
 pub is-valid-last-spec : {M : Type 1} → statement M
 is-valid-last-spec =

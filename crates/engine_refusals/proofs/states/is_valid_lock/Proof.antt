@@ -1,9 +1,9 @@
-use Rattle.engine_spec.specs.Refusals.{validLock}
+-- `engine_refusals::states::is_valid_lock` meets its contract. Assumes nothing.
 use borrow.Author.Needs.{needs}
+use Rattle.engine_spec.specs.Refusals.{validLock}
 use Rattle.engine_refusals.proofs.states.is_valid_lock.Statement.{statement}
 use Rattle.engine_refusals.proofs.states.is_valid_lock.Tie as tie
 
--- src/states.rt:85:1
 returns : tie.Need-returns
 unfolding validLock
 returns c = simp (← (c .before .before .is-valid-hypothesis .ensures), ← (c .before .is-valid-hypothesis2 .ensures), ← (c .is-valid-search-time .ensures))

@@ -1,9 +1,9 @@
-use Rattle.engine_spec.specs.Refusals.{validSettings}
+-- `engine_refusals::states::is_valid_settings` meets its contract. Assumes nothing.
 use borrow.Author.Needs.{needs}
+use Rattle.engine_spec.specs.Refusals.{validSettings}
 use Rattle.engine_refusals.proofs.states.is_valid_settings.Statement.{statement}
 use Rattle.engine_refusals.proofs.states.is_valid_settings.Tie as tie
 
--- src/states.rt:49:1
 returns : tie.Need-returns
 unfolding validSettings
 returns c = simp (← (c .before .before .before .before .is-valid-configuration .ensures), ← (c .before .before .before .is-hop .ensures), ← (c .before .before .are-counts .ensures), ← (c .before .is-both-or-neither .ensures), ← (c .is-near .ensures))

@@ -1,0 +1,28 @@
+-- `engine::support::support_age` meets its contract. Assumes nothing.
+use borrow.Author.Needs.{needs}
+use borrow.Author.Tests.{not-true, not-false}
+use Rattle.engine_spec.specs.SupportAge.{supportAge}
+use Rattle.engine.proofs.support.support_age.Statement.{statement}
+use Rattle.engine.proofs.support.support_age.Tie as tie
+
+is-valid-engine-requires : tie.Need-is-valid-engine-requires
+is-valid-engine-requires c κs = search needs
+
+returns : tie.Need-returns
+unfolding supportAge
+returns c = simp (← (c .before .is-valid-engine .ensures), not-true (c .before .is-valid-engine .result) (c .if1 .taken))
+
+is-locked-requires : tie.Need-is-locked-requires
+is-locked-requires c κs = search needs
+
+returns-2 : tie.Need-returns-2
+unfolding supportAge
+returns-2 c = simp (← (c .before .before .before .before .before .before .before .is-valid-engine .ensures), not-false (c .before .before .before .before .before .before .before .is-valid-engine .result) (c .before .before .before .before .before .before .if1 .left), ← (c .before .before .before .is-locked .ensures), c .before .if2 .taken)
+
+returns-3 : tie.Need-returns-3
+unfolding supportAge
+returns-3 c = simp (← (c .before .before .before .before .before .before .is-valid-engine .ensures), not-false (c .before .before .before .before .before .before .is-valid-engine .result) (c .before .before .before .before .before .if1 .left), ← (c .before .before .is-locked .ensures), c .if2 .left)
+
+pub support-age-spec : {M : Type 1} → statement M
+support-age-spec =
+    tie.close (tie.spec is-valid-engine-requires returns is-locked-requires returns-2 returns-3)

@@ -1,0 +1,136 @@
+// Submission: the refusal, then the answer.
+ghost use lib.ListN.{length};
+ghost use mathlib.Core.Bool.{true};
+ghost use mathlib.Core.Path.{_≡_};
+ghost use Rattle.matcher_laws.specs.Words.{Every, F32};
+ghost use Rattle.engine_spec.specs.Refusals.{refuses};
+ghost use Rattle.engine_spec.specs.Submitting.{submit, answeredFrom, refused, reread};
+ghost use Rattle.engine_spec.specs.Lent.{handed, lent, window};
+ghost use Rattle.engine_spec.specs.Room.{Room};
+use crate::fresh::blank_snapshot;
+use engine_decision::decide::decide;
+use engine_decision::windows::is_reread;
+use engine_decision::windows::lock_from;
+use engine_refusals::handed::is_refusal;
+use engine_refusals::handed::submission_refusal;
+use engine_snapshot::answers::computed_from;
+use engine_snapshot::answers::reread;
+use engine_snapshot::milestones::reached_by;
+use engine_spec::types::Answer;
+use engine_spec::types::ClockMs;
+use engine_spec::types::Engine;
+use engine_spec::types::RecordedMs;
+use engine_spec::types::Submitted;
+
+// Answers a window, or refuses it by number. `engine` is what the submission before gave back, or
+// `open` gave; the four index slices are as `open` filled them. A refusal gives `engine` back as it
+// was and writes nothing. What the working slices held does not matter, and what they hold then is
+// free. That the values are f32 is said for whoever applies `open`'s guarantee to a list of calls.
+pub fn submit(
+    engine: Engine,
+    fine: &[f32],
+    coarse: &[f32],
+    fine_squares: &[f64],
+    coarse_squares: &[f64],
+    bands: usize,
+    times: &[f64],
+    energies: &[f64],
+    values: &[f32],
+    clock: ClockMs,
+    work32: &mut [f32],
+    work64: &mut [f64],
+) -> Submitted
+    ensures { λ r. ⌜ r ≡ submit engine (handed (lent (now (fine .entry)) (now (coarse .entry)) (now («fine_squares» .entry)) (now («coarse_squares» .entry))) (window bands (now (times .entry)) (now (energies .entry)) (now (values .entry))) clock (length (now (work32 .entry))) (length (now (work64 .entry)))) ⌝ }
+    ensures untouched { λ r. ⌜ (refuses (r .answer) ≡ true → (now (work32 .exit) ≡ now (work32 .entry)) × (now (work64 .exit) ≡ now (work64 .entry))) ⌝ }
+    ensures lengths { λ r. ⌜ (length (now (work32 .exit)) ≡ length (now (work32 .entry))) × (length (now (work64 .exit)) ≡ length (now (work64 .entry))) ⌝ }
+    ensures held { λ r. ⌜ Every F32 (now (values .entry)) ⌝ }
+{
+    let answer = submission_refusal(
+        engine,
+        fine,
+        coarse,
+        fine_squares,
+        coarse_squares,
+        bands,
+        times,
+        energies,
+        values,
+        clock,
+        work32.len(),
+        work64.len(),
+    );
+    if is_refusal(answer) {
+        return refused(engine, answer);
+    }
+    answered(
+        engine,
+        fine,
+        coarse,
+        fine_squares,
+        coarse_squares,
+        bands,
+        times,
+        energies,
+        values,
+        clock,
+        work32,
+        work64,
+    )
+}
+
+// A submission that is not refused: the last snapshot again, or a computed one.
+fn answered(
+    engine: Engine,
+    fine: &[f32],
+    coarse: &[f32],
+    fine_squares: &[f64],
+    coarse_squares: &[f64],
+    bands: usize,
+    times: &[f64],
+    energies: &[f64],
+    values: &[f32],
+    clock: ClockMs,
+    work32: &mut [f32],
+    work64: &mut [f64],
+) -> Submitted
+    requires { ⌜ Room (engine .settings) (lent (now fine) (now coarse) (now «fine_squares») (now «coarse_squares»)) (window bands (now times) (now energies) (now values)) (length (now work32)) (length (now work64)) ⌝ }
+    ensures { λ r. ⌜ r ≡ answeredFrom engine (handed (lent (now (fine .entry)) (now (coarse .entry)) (now («fine_squares» .entry)) (now («coarse_squares» .entry))) (window bands (now (times .entry)) (now (energies .entry)) (now (values .entry))) clock (length (now (work32 .entry))) (length (now (work64 .entry)))) ⌝ }
+{
+    let n = times.len();
+    let settings = engine.settings;
+    let last = engine.last;
+    if is_reread(settings, last, bands, times, energies, values) {
+        return reread(engine, RecordedMs(times[n - 1]));
+    }
+    let milestones = engine.milestones;
+    let reached = reached_by(milestones);
+    let lock = lock_from(engine, bands, times, energies, values);
+    let d = decide(
+        settings,
+        fine,
+        coarse,
+        fine_squares,
+        coarse_squares,
+        bands,
+        times,
+        energies,
+        values,
+        reached,
+        lock,
+        work32,
+        work64,
+    );
+    computed_from(engine, bands, times, energies, values, clock, d)
+}
+
+// The same engine, and no snapshot.
+pub fn refused(engine: Engine, answer: Answer) -> Submitted
+    ensures { λ r. ⌜ r ≡ refused engine answer ⌝ }
+{
+    let snapshot = blank_snapshot();
+    Submitted {
+        answer,
+        engine,
+        snapshot,
+    }
+}

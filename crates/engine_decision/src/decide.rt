@@ -1,0 +1,63 @@
+// The decision on a window. It sees which milestones are there, and no clock.
+ghost use Prim.Native.Nat.{_≤_};
+ghost use lib.ListN.{length};
+ghost use mathlib.Core.Path.{_≡_};
+ghost use Rattle.engine_spec.specs.Windows.{matcherIn};
+ghost use Rattle.engine_spec.specs.Publishing.{decide};
+ghost use Rattle.engine_spec.specs.Lent.{lent, window};
+ghost use Rattle.engine_spec.specs.Room.{Room};
+ghost use Rattle.engine_lock.specs.Views.{reachedIn};
+ghost use Rattle.engine_decision.specs.Decided.{decisionIn};
+use crate::kinds::Decision;
+use crate::verdict::ready;
+use crate::verdict::unready;
+use engine_lock::kinds::Reached;
+use engine_lock::search::searched;
+use engine_readiness::is_none;
+use engine_readiness::readiness;
+use engine_spec::types::Lock;
+use engine_spec::types::RecordedMs;
+use engine_spec::types::Settings;
+
+pub fn decide(
+    settings: Settings,
+    fine: &[f32],
+    coarse: &[f32],
+    fine_squares: &[f64],
+    coarse_squares: &[f64],
+    bands: usize,
+    times: &[f64],
+    energies: &[f64],
+    values: &[f32],
+    reached: Reached,
+    lock: Lock,
+    work32: &mut [f32],
+    work64: &mut [f64],
+) -> Decision
+    requires { ⌜ Room settings (lent (now fine) (now coarse) (now «fine_squares») (now «coarse_squares»)) (window bands (now times) (now energies) (now values)) (length (now work32)) (length (now work64)) ⌝ }
+    ensures { λ r. ⌜ decisionIn r ≡ decide settings (matcherIn settings (lent (now (fine .entry)) (now (coarse .entry)) (now («fine_squares» .entry)) (now («coarse_squares» .entry)))) (window bands (now (times .entry)) (now (energies .entry)) (now (values .entry))) (reachedIn reached) lock ⌝ }
+    ensures { λ r. ⌜ r .found .count ≤ 8 ⌝ }
+{
+    let n = times.len();
+    let endpoint = RecordedMs(times[n - 1]);
+    let reason = readiness(settings, reached.confirmed, bands, times, energies, values);
+    if !is_none(reason) {
+        return unready(settings, reached, lock, reason);
+    }
+    let s = searched(
+        settings,
+        fine,
+        coarse,
+        fine_squares,
+        coarse_squares,
+        bands,
+        times,
+        energies,
+        values,
+        reached,
+        lock,
+        work32,
+        work64,
+    );
+    ready(settings.hop_ms, endpoint, s)
+}

@@ -1,0 +1,136 @@
+// The diagnostics of a snapshot.
+ghost use Prim.Native.Nat.{_<_, _≤_};
+ghost use lib.ListN.{length};
+ghost use mathlib.Core.Bool.{cond};
+ghost use mathlib.Core.Path.{_≡_};
+ghost use Rattle.numbers.specs.Arithmetic.{zero⁺};
+ghost use Rattle.number_laws.specs.Values.{magnitude};
+ghost use Rattle.matcher_picks.specs.Candidates.{listed, marginOf};
+ghost use Rattle.engine_spec.specs.Publishing.{ambiguous, coverage, diagnosticsOf, isPublishing, magnitudeOf, trackCount};
+ghost use Rattle.engine_spec.specs.Lent.{window};
+ghost use Rattle.engine_decision.specs.Decided.{decisionIn};
+use crate::candidates::candidate_array;
+use crate::candidates::comparable_frames;
+use crate::candidates::coverage;
+use crate::candidates::found_count;
+use crate::spectral::spectral_of;
+use engine_decision::kinds::Decision;
+use engine_decision::verdict::is_ambiguous;
+use engine_readiness::active_fraction;
+use engine_spec::types::Diagnostics;
+use engine_spec::types::Hypothesis;
+use engine_spec::types::Maybe;
+use engine_spec::types::Settings;
+use engine_spec::types::State;
+use matcher_picks::candidates::MatchResult;
+use matcher_picks::candidates::margin;
+use numbers::whole::count;
+
+pub fn diagnostics_of(
+    settings: Settings,
+    bands: usize,
+    times: &[f64],
+    energies: &[f64],
+    values: &[f32],
+    d: Decision,
+) -> Diagnostics
+    requires { ⌜ d .found .count ≤ 8 ⌝ ∗ ⌜ 0 < length (now times) ⌝ ∗ ⌜ length (now times) ≤ length (now energies) ⌝ }
+    ensures { λ r. ⌜ r ≡ diagnosticsOf settings (window bands (now (times .entry)) (now (energies .entry)) (now (values .entry))) (decisionIn d) ⌝ }
+{
+    let n = times.len();
+    let configuration = settings.configuration;
+    let verdict = d.verdict;
+    let state = verdict.state;
+    let innovation = verdict.innovation;
+    let lock = d.lock;
+    let accepted = lock.accepted;
+    let found = d.found;
+    let publishing = is_publishing(state);
+    let duration = times[n - 1] - times[0];
+    let active = active_fraction(configuration, bands, times, energies, values);
+    let ambiguous = is_ambiguous(found);
+    let dense = dense_margin(d.global, found);
+    let stability = magnitude_of(innovation);
+    let track_count = track_count(accepted);
+    let comparable = comparable_frames(settings.hop_ms, bands, times, energies, values);
+    let covered = coverage(bands, times, energies, values);
+    let candidates = candidate_array(comparable, covered, found);
+    let candidate_count = found_count(found);
+    let spectral = spectral_of(d);
+    Diagnostics {
+        query_duration_ms: duration,
+        active_frame_fraction: active,
+        coarse_ambiguous: d.global & ambiguous,
+        dense_margin: dense,
+        offset_stability_ms: stability,
+        track_innovation_ms: innovation,
+        track_count,
+        offset_tracker_confirmed: publishing,
+        offset_tracker_stable: publishing & (verdict.coast == 0.0),
+        candidate_count,
+        candidates,
+        spectral,
+    }
+}
+
+fn magnitude_of(m: Maybe) -> Maybe
+    ensures { λ r. ⌜ r ≡ magnitudeOf m ⌝ }
+{
+    match m {
+        Maybe::Absent => Maybe::Absent,
+        Maybe::Is(x) => Maybe::Is(magnitude(x)),
+    }
+}
+
+// |x|: of either zero +0.
+fn magnitude(x: f64) -> f64
+    ensures { λ r. ⌜ r ≡ magnitude x ⌝ }
+{
+    if x < 0.0 {
+        return -x;
+    }
+    if x == 0.0 {
+        return 0.0;
+    }
+    x
+}
+
+fn track_count(h: Hypothesis) -> usize
+    ensures { λ r. ⌜ r ≡ trackCount h ⌝ }
+{
+    match h {
+        Hypothesis::Absent => 0,
+        Hypothesis::Held {
+            offset_ms: _,
+            first_evidence_ms: _,
+            last_evidence_ms: _,
+            correlation: _,
+        } => 1,
+    }
+}
+
+fn dense_margin(global: bool, found: MatchResult) -> f64
+    requires { ⌜ found .count ≤ 8 ⌝ }
+    ensures { λ r. ⌜ r ≡ cond global (marginOf (listed found)) zero⁺ ⌝ }
+{
+    if global {
+        return margin(found);
+    }
+    0.0
+}
+
+pub fn is_publishing(s: State) -> bool
+    ensures { λ r. ⌜ r ≡ isPublishing s ⌝ }
+{
+    match s {
+        State::Ready => false,
+        State::Listening => false,
+        State::Locking => false,
+        State::Confirmed => true,
+        State::Locked => true,
+        State::Drifting => false,
+        State::Relocking => false,
+        State::Lost => false,
+        State::Failed => false,
+    }
+}

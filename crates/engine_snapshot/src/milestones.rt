@@ -1,0 +1,73 @@
+// Milestones: which are there, and the one place where a clock reading is written.
+ghost use mathlib.Core.Path.{_≡_};
+ghost use Rattle.engine_spec.specs.Submitting.{isThere, reachedBy, stamp, stampedOnce, stampedWithFinal};
+ghost use Rattle.engine_lock.specs.Views.{reachedIn};
+use engine_lock::kinds::Reached;
+use engine_spec::types::ClockMs;
+use engine_spec::types::Milestone;
+use engine_spec::types::Milestones;
+
+pub fn reached_by(m: Milestones) -> Reached
+    ensures { λ r. ⌜ reachedIn r ≡ reachedBy m ⌝ }
+{
+    let first = m.first_provisional_ms;
+    let second = m.confirmed_ms;
+    let third = m.final_ms;
+    let provisional = is_there(first);
+    let confirmed = is_there(second);
+    let final_lock = is_there(third);
+    Reached {
+        provisional,
+        confirmed,
+        final_lock,
+    }
+}
+
+pub fn stamp(m: Milestones, k: Reached, clock: ClockMs) -> Milestones
+    ensures { λ r. ⌜ r ≡ stamp m (reachedIn k) clock ⌝ }
+{
+    let first = m.first_provisional_ms;
+    let second = m.confirmed_ms;
+    let third = m.final_ms;
+    let first_provisional_ms = stamped_once(k.provisional, first, clock);
+    let confirmed_ms = stamped_with_final(k.final_lock, third, second, clock);
+    let final_ms = stamped_once(k.final_lock, third, clock);
+    Milestones {
+        first_provisional_ms,
+        confirmed_ms,
+        final_ms,
+    }
+}
+
+fn stamped_once(there: bool, old: Milestone, clock: ClockMs) -> Milestone
+    ensures { λ r. ⌜ r ≡ stampedOnce there old clock ⌝ }
+{
+    if !there {
+        return old;
+    }
+    match old {
+        Milestone::Absent => Milestone::At(clock),
+        Milestone::At(t) => Milestone::At(t),
+    }
+}
+
+fn stamped_with_final(there: bool, last: Milestone, old: Milestone, clock: ClockMs) -> Milestone
+    ensures { λ r. ⌜ r ≡ stampedWithFinal there last old clock ⌝ }
+{
+    if !there {
+        return old;
+    }
+    match last {
+        Milestone::Absent => Milestone::At(clock),
+        Milestone::At(_) => old,
+    }
+}
+
+fn is_there(m: Milestone) -> bool
+    ensures { λ r. ⌜ r ≡ isThere m ⌝ }
+{
+    match m {
+        Milestone::Absent => false,
+        Milestone::At(_) => true,
+    }
+}
