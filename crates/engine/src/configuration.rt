@@ -3,6 +3,7 @@ ghost use mathlib.Core.Path.{_≡_};
 ghost use Rattle.engine_spec.specs.Opening.{defaultConfiguration};
 use engine_spec::types::Configuration;
 
+// Durations of 2,500 and 2,000, energies of -70 and -62, a fraction of 0.35.
 pub fn default_configuration() -> Configuration
     ensures { λ r. ⌜ r ≡ defaultConfiguration ⌝ }
 {

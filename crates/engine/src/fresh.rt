@@ -25,6 +25,7 @@ use engine_spec::types::Stage;
 use engine_spec::types::State;
 use engine_spec::types::WithholdReason;
 
+// No endpoint, snapshot, place or milestone.
 pub fn fresh_engine(settings: Settings) -> Engine
     ensures { λ r. ⌜ r ≡ freshEngine settings ⌝ }
 {
@@ -44,6 +45,7 @@ pub fn fresh_engine(settings: Settings) -> Engine
     }
 }
 
+// What a refused opening gives: an engine with hop 0, which every submission refuses with 7.
 pub fn no_engine() -> Engine
     ensures { λ r. ⌜ r ≡ noEngine ⌝ }
 {
@@ -84,6 +86,7 @@ pub fn without_index(configuration: Configuration, hop: f64) -> Settings
     }
 }
 
+// A snapshot of nothing, where a value has to stand and there is no snapshot.
 pub fn blank_snapshot() -> Snapshot
     ensures { λ r. ⌜ r ≡ blankSnapshot ⌝ }
 {
@@ -101,6 +104,7 @@ pub fn blank_snapshot() -> Snapshot
     }
 }
 
+// Its diagnostics.
 fn blank_diagnostics() -> Diagnostics
     ensures { λ r. ⌜ r ≡ blankSnapshot .diagnostics ⌝ }
 {
@@ -122,6 +126,7 @@ fn blank_diagnostics() -> Diagnostics
     }
 }
 
+// What it shows of a search.
 fn blank_spectral() -> SpectralDiagnostics
     ensures { λ r. ⌜ r ≡ blankSnapshot .diagnostics .spectral ⌝ }
 {
@@ -137,6 +142,7 @@ fn blank_spectral() -> SpectralDiagnostics
     }
 }
 
+// None is reached.
 fn no_milestones() -> Milestones
     ensures { λ r. ⌜ r ≡ noMilestones ⌝ }
 {

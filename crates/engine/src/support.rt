@@ -36,6 +36,7 @@ pub fn support_age(engine: Engine) -> Age
     }
 }
 
+// A track is shown that ends or follows a chain.
 fn is_locked(s: State) -> bool
     ensures { λ r. ⌜ r ≡ isLocked s ⌝ }
 {

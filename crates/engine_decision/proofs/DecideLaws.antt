@@ -24,10 +24,6 @@ use Rattle.engine_spec.specs.declared.types.WithholdReason.{WithholdReason}
 use Rattle.engine_spec.specs.declared.types.WithholdReason.the-variants as reason
 use Rattle.engine_lock.specs.Views.{endingAt}
 
-pub not-not-is : (b : Bool) → b ≡ not (not b)
-not-not-is true = refl
-not-not-is false = refl
-
 there : (b : Bool) (r : WithholdReason) → isNone (cond (not (not b)) reason.IndexUnavailable r) ≡ true → b ≡ false
 unfolding isNone
 there true r h = absurd (false≢true h)

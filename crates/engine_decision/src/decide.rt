@@ -19,6 +19,7 @@ use engine_spec::types::Lock;
 use engine_spec::types::RecordedMs;
 use engine_spec::types::Settings;
 
+// Readiness first; a window that is ready is searched.
 pub fn decide(
     settings: Settings,
     fine: &[f32],

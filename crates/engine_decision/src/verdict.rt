@@ -29,6 +29,7 @@ use matcher_picks::candidates::margin;
 use matcher_picks::candidates::nothing_found;
 use numbers::float::at_least;
 
+// What a window decides that was searched.
 pub fn ready(hop: f64, endpoint: RecordedMs, s: Searched) -> Decision
     requires { ⌜ s .found .count ≤ 8 ⌝ }
     ensures { λ r. ⌜ decisionIn r ≡ ready hop (endingAt endpoint) (searchedIn s) ⌝ }
@@ -49,6 +50,8 @@ pub fn ready(hop: f64, endpoint: RecordedMs, s: Searched) -> Decision
     }
 }
 
+// What a window decides that cannot be searched: the observed loss of sound is no support for the
+// old place.
 pub fn unready(settings: Settings, reached: Reached, lock: Lock, reason: WithholdReason) -> Decision
     ensures { λ r. ⌜ decisionIn r ≡ unready settings (reachedIn reached) lock reason ⌝ }
     ensures { λ r. ⌜ r .found .count ≤ 8 ⌝ }
@@ -98,6 +101,8 @@ pub fn verdict_of(accepted: Hypothesis, now: RecordedMs, s: Searched) -> Verdict
     }
 }
 
+// On a track at this offset, whose evidence ended so long ago. From a fresh engine it is never
+// Confirmed.
 fn on_track(s: Searched, offset: f64, since: f64) -> Verdict
     ensures { λ r. ⌜ verdictIn r ≡ onTrack (searchedIn s) offset since ⌝ }
 {
@@ -115,6 +120,7 @@ fn on_track(s: Searched, offset: f64, since: f64) -> Verdict
     }
 }
 
+// On no track: Locking with the pending place, or Relocking with none.
 fn off_track(s: Searched) -> Verdict
     requires { ⌜ s .found .count ≤ 8 ⌝ }
     ensures { λ r. ⌜ verdictIn r ≡ offTrack (searchedIn s) ⌝ }
@@ -135,6 +141,7 @@ fn off_track(s: Searched) -> Verdict
     }
 }
 
+// Something was found, but its margin is below 0.06.
 pub fn is_ambiguous(found: MatchResult) -> bool
     requires { ⌜ found .count ≤ 8 ⌝ }
     ensures { λ r. ⌜ r ≡ ambiguous (listed found) ⌝ }
@@ -210,6 +217,7 @@ fn on_track_reason(supported: bool) -> WithholdReason
     }
 }
 
+// Failed without index; else Lost once a lock was confirmed, and Listening before.
 fn unready_state(frames: u16, confirmed: bool) -> State
     ensures { λ r. ⌜ r ≡ cond (not (eqb frames 0)) (cond confirmed state.Lost state.Listening) state.Failed ⌝ }
 {

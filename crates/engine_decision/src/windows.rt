@@ -1,9 +1,10 @@
 // What a window is by the last computed one: a jump, a re-reading, or neither.
 ghost use Prim.Native.Nat.{_<_};
 ghost use lib.ListN.{length};
-ghost use mathlib.Core.Bool.{_&&_};
+ghost use mathlib.Core.Bool.{_&&_, _||_, not};
 ghost use mathlib.Core.Path.{_≡_};
-ghost use Rattle.engine_spec.specs.Windows.{jumpsFrom, rereads, rereadsFrom};
+ghost use Rattle.matcher_bands.specs.Timeline.{accepts};
+ghost use Rattle.engine_spec.specs.Windows.{indexed, jumpsFrom, rereads, rereadsFrom};
 ghost use Rattle.engine_spec.specs.Submitting.{lockFrom};
 ghost use Rattle.engine_spec.specs.Lent.{window};
 ghost use Rattle.engine_spec.specs.Opening.{noLock};
@@ -66,6 +67,8 @@ pub fn lock_from(
     }
 }
 
+// An endpoint less than 90 past the last computed one, and no jump. The timeline is looked at last,
+// since most windows lie further on.
 fn rereads_from(
     settings: Settings,
     last: RecordedMs,
@@ -78,16 +81,31 @@ fn rereads_from(
     ensures { λ r. ⌜ r ≡ rereadsFrom settings last (window bands (now (times .entry)) (now (energies .entry)) (now (values .entry))) ⌝ }
 {
     let n = times.len();
-    let jumped = jumps_from(settings.hop_ms, last, bands, times, energies, values);
-    let accepted = accepts_timeline(
+    if jumps_from(settings.hop_ms, last, bands, times, energies, values) {
+        return false;
+    }
+    if times[n - 1] - last.0 < REREAD_MS {
+        return may_be_read_again(settings, bands, times);
+    }
+    false
+}
+
+// On an accepted timeline, or without index.
+fn may_be_read_again(settings: Settings, bands: usize, times: &[f64]) -> bool
+    ensures { λ r. ⌜ r ≡ (not (indexed settings) || accepts (settings .«reference_bands») (settings .«hop_ms») bands (now (times .entry))) ⌝ }
+{
+    if settings.reference_frames == 0 {
+        return true;
+    }
+    accepts_timeline(
         settings.reference_bands as usize,
         settings.hop_ms,
         bands,
         times,
-    );
-    !jumped & ((times[n - 1] - last.0 < REREAD_MS) & ((settings.reference_frames == 0) | accepted))
+    )
 }
 
+// An endpoint before the last computed one, or a start more than two hops past it.
 fn jumps_from(
     hop: f64,
     last: RecordedMs,
@@ -103,6 +121,7 @@ fn jumps_from(
     (times[n - 1] < last.0) | (times[0] > last.0 + 2.0 * hop)
 }
 
+// No place, and no whole search: also what a jump leaves.
 pub fn no_lock() -> Lock
     ensures { λ r. ⌜ r ≡ noLock ⌝ }
 {

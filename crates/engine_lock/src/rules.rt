@@ -30,6 +30,7 @@ use matcher_picks::candidates::margin;
 use numbers::float::abs;
 use numbers::float::at_most;
 
+// Due 500 after the last whole search, or 2,000 where the window supports the track.
 pub fn is_whole_due(supported: bool, now: RecordedMs, last: RecordedMs) -> bool
     ensures { λ r. ⌜ r ≡ wholeDue supported now last ⌝ }
 {
@@ -46,6 +47,8 @@ fn least(x: f64, y: f64) -> f64
     if y == y { at_most(y, x) } else { x }
 }
 
+// Whether a whole search passes, by its best candidate and its margin. Both halves have to reach
+// 0.10, tested by the lesser of them, as the Rust does.
 pub fn is_passing(found: MatchResult) -> bool
     requires { ⌜ found .count ≤ 8 ⌝ }
     ensures { λ r. ⌜ r ≡ passing (listed found) ⌝ }
@@ -59,12 +62,15 @@ pub fn is_passing(found: MatchResult) -> bool
             & (least(best.first_half_score, best.second_half_score) >= PASSING_HALF))
 }
 
+// Evidence that is not stale.
 fn is_current(now: RecordedMs, last: RecordedMs) -> bool
     ensures { λ r. ⌜ r ≡ current now last ⌝ }
 {
     now.0 - last.0 <= STALE_MS
 }
 
+// A passing search carries pending on, with its first evidence, where that is current and at the
+// same place. Otherwise it starts anew.
 fn first_evidence(pending: Hypothesis, offset: f64, now: RecordedMs) -> RecordedMs
     ensures { λ r. ⌜ r ≡ firstEvidence pending offset now ⌝ }
 {
@@ -85,6 +91,8 @@ fn first_evidence(pending: Hypothesis, offset: f64, now: RecordedMs) -> Recorded
     }
 }
 
+// A search that does not pass holds pending where its best is at the same place, unambiguous, and
+// pending current.
 fn holds(offset: f64, last: RecordedMs, found: MatchResult, now: RecordedMs) -> bool
     requires { ⌜ found .count ≤ 8 ⌝ }
     ensures { λ r. ⌜ r ≡ holds offset last (listed found) now ⌝ }
@@ -97,6 +105,7 @@ fn holds(offset: f64, last: RecordedMs, found: MatchResult, now: RecordedMs) -> 
         & ((margin(found) >= PASSING_MARGIN) & is_current(now, last))
 }
 
+// Pending after a search that does not pass.
 fn held_or_dropped(pending: Hypothesis, found: MatchResult, now: RecordedMs) -> Hypothesis
     requires { ⌜ found .count ≤ 8 ⌝ }
     ensures { λ r. ⌜ r ≡ heldOrDropped pending (listed found) now ⌝ }
@@ -118,12 +127,15 @@ fn held_or_dropped(pending: Hypothesis, found: MatchResult, now: RecordedMs) -> 
     }
 }
 
+// The end of a chain: 1,000 less a hop of fresh evidence, and recent support.
 fn confirms(hop: f64, first: RecordedMs, now: RecordedMs, best: Candidate) -> bool
     ensures { λ r. ⌜ r ≡ confirms hop first now best ⌝ }
 {
     (now.0 - first.0 >= CHAIN_MS - hop) & (best.recent_score >= CHAIN_RECENT)
 }
 
+// The track at the end of a chain: kept where the window supports it at the chain's place, else
+// begun there.
 fn kept_or_replaced(
     accepted: Hypothesis,
     supported: bool,
@@ -155,6 +167,7 @@ fn kept_or_replaced(
     }
 }
 
+// A passing search brings the first milestone.
 fn after_passing(k: Reached) -> Reached
     ensures { λ r. ⌜ reachedIn r ≡ afterPassing (reachedIn k) ⌝ }
 {
@@ -165,7 +178,8 @@ fn after_passing(k: Reached) -> Reached
     }
 }
 
-// Where final is there, confirmed stays what it was.
+// The end of a chain brings final, and confirmed with it. Where final was there, confirmed stays
+// what it was.
 fn after_chain(k: Reached) -> Reached
     ensures { λ r. ⌜ reachedIn r ≡ afterChain (reachedIn k) ⌝ }
 {
@@ -176,7 +190,7 @@ fn after_chain(k: Reached) -> Reached
     }
 }
 
-// After a whole search that passed.
+// What a whole search leaves that passed. `first` is the first evidence of pending.
 fn passed(
     hop: f64,
     endpoint: RecordedMs,
@@ -232,7 +246,7 @@ fn passed(
     }
 }
 
-// After one that did not.
+// What one leaves that did not pass.
 fn not_passed(
     hop: f64,
     endpoint: RecordedMs,
@@ -264,7 +278,7 @@ fn not_passed(
     }
 }
 
-// After a whole search that found these.
+// What a whole search leaves that found these.
 pub fn whole_searched(
     hop: f64,
     endpoint: RecordedMs,
@@ -286,7 +300,7 @@ pub fn whole_searched(
     passed(hop, endpoint, reached, first, t, best, found)
 }
 
-// Without a whole search.
+// Without a whole search pending and the search time stay.
 pub fn locally_searched(reached: Reached, lock: Lock, t: Tracked) -> Searched
     ensures { λ r. ⌜ searchedIn r ≡ locallySearched (reachedIn reached) lock (trackedIn t) ⌝ }
     ensures { λ r. ⌜ r .found ≡ t .found ⌝ }

@@ -23,25 +23,29 @@ use numbers::exponential::exp;
 use numbers::float::abs;
 use numbers::float::at_least;
 
-// Evidence time: the endpoint less the frames that centring trims.
+// Evidence time (document 01): the endpoint less the rounded 250 / hop frames that centring trims,
+// here without the floor of 1.
 pub fn evidence(hop: f64, endpoint: RecordedMs) -> RecordedMs
     ensures { λ r. ⌜ r ≡ evidence hop (endingAt endpoint) ⌝ }
 {
     RecordedMs(endpoint.0 - context_frames(hop) * hop)
 }
 
+// Two offsets are the same place: at most 80 apart.
 pub fn is_same_place(a: f64, b: f64) -> bool
     ensures { λ r. ⌜ r ≡ samePlace a b ⌝ }
 {
     abs(a - b) <= SAME_PLACE_MS
 }
 
+// A track may coast up to 1,500 after its last evidence.
 pub fn may_coast(now: RecordedMs, last: RecordedMs) -> bool
     ensures { λ r. ⌜ r ≡ mayCoast now last ⌝ }
 {
     now.0 - last.0 <= COAST_MOST_MS
 }
 
+// Whether a candidate supports a track at this offset.
 fn supports(offset: f64, best: Candidate) -> bool
     ensures { λ r. ⌜ r ≡ supports offset best ⌝ }
 {
@@ -49,12 +53,14 @@ fn supports(offset: f64, best: Candidate) -> bool
         & ((best.recent_score >= SUPPORT_RECENT) & is_same_place(best.offset_ms, offset))
 }
 
+// How far a supported track goes toward what was found, by the time since its last evidence.
 fn gain(dt: f64) -> f64
     ensures { λ r. ⌜ r ≡ gain dt ⌝ }
 {
     1.0 - exp(-dt / GAIN_MS)
 }
 
+// The track's offset, moved toward the best candidate's.
 fn moved_offset(offset: f64, best: Candidate, dt: f64) -> f64
     ensures { λ r. ⌜ r ≡ movedOffset offset best dt ⌝ }
 {
@@ -70,6 +76,7 @@ pub fn best_of(found: MatchResult) -> Candidate
     candidates[0]
 }
 
+// No support: the track as it was, or none.
 pub fn unsupported(track: Hypothesis, found: MatchResult) -> Tracked
     ensures { λ r. ⌜ trackedIn r ≡ unsupported track (listed found) ⌝ }
     ensures { λ r. ⌜ r .found ≡ found ⌝ }

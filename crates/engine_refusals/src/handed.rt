@@ -21,6 +21,7 @@ use engine_spec::types::Settings;
 use matcher_bands::timeline::are_valid;
 use numbers::float::is_finite;
 
+// Every answer that has a number.
 pub fn is_refusal(a: Answer) -> bool
     ensures { λ r. ⌜ r ≡ refuses a ⌝ }
 {
@@ -44,6 +45,8 @@ pub fn is_refusal(a: Answer) -> bool
     }
 }
 
+// 6: the index holds a row of frames and one of a quarter of them for each band, with an energy more
+// than values in a row.
 fn index_fits(
     frames: usize,
     bands: usize,
@@ -61,6 +64,7 @@ fn index_fits(
                 & (bands * (frames / 4 + 1) <= coarse_squares.len())))
 }
 
+// 1 to 6, in document 01's order. Sizes are tested before any product of them.
 pub fn opening_refusal(
     configuration: Configuration,
     hop: f64,
@@ -96,6 +100,7 @@ pub fn opening_refusal(
     Answer::Opened
 }
 
+// 11: bands, lengths that agree, and values that are finite and not negative.
 fn is_valid_window(bands: usize, times: &[f64], energies: &[f64], values: &[f32]) -> bool
     requires { ⌜ bands ≤ 64 ⌝ ∗ ⌜ length (now times) ≤ 1024 ⌝ }
     ensures { λ r. ⌜ r ≡ validWindow (window bands (now (times .entry)) (now (energies .entry)) (now (values .entry))) ⌝ }
@@ -104,6 +109,7 @@ fn is_valid_window(bands: usize, times: &[f64], energies: &[f64], values: &[f32]
     (0 < bands) & ((energies.len() == n) & ((values.len() == bands * n) & are_valid(values)))
 }
 
+// 13: by the window's bands and frames and the state's frames.
 fn work_fits(
     bands: usize,
     frames: usize,
@@ -117,6 +123,7 @@ fn work_fits(
     (2 * bands * frames <= room32) & (3 * bands * (frames + 1) + reference_frames <= room64)
 }
 
+// 6 and 8 to 13: what may be refused of a submission to a state with these settings.
 fn handed_refusal(
     settings: Settings,
     fine: &[f32],
@@ -173,6 +180,7 @@ fn handed_refusal(
     Answer::Computed
 }
 
+// 7 first: what the state holds.
 pub fn submission_refusal(
     engine: Engine,
     fine: &[f32],

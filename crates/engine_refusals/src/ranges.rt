@@ -14,36 +14,42 @@ pub fn is_within(limit: f64, x: f64) -> bool
     (-limit <= x) & (x <= limit)
 }
 
+// A time that is finite and within ±10^12.
 pub fn is_near(t: f64) -> bool
     ensures { λ r. ⌜ r ≡ near t ⌝ }
 {
     is_within(FARTHEST_MS, t)
 }
 
+// A number of a track or an estimate, within ±10^13.
 pub fn is_track_number(x: f64) -> bool
     ensures { λ r. ⌜ r ≡ trackNumber x ⌝ }
 {
     is_within(TRACK_MOST, x)
 }
 
+// A reference time that is not finite is no refusal: it makes the reference one that is rejected.
 fn is_near_or_not_finite(t: f64) -> bool
     ensures { λ r. ⌜ r ≡ nearOrNotFinite t ⌝ }
 {
     !is_finite(t) | is_near(t)
 }
 
+// An energy is a number below plus infinity; minus infinity passes.
 fn is_valid_energy(x: f64) -> bool
     ensures { λ r. ⌜ r ≡ validEnergy x ⌝ }
 {
     x < 1.0 / 0.0
 }
 
+// From 1 to 1,000; a NaN is not.
 pub fn is_hop(hop: f64) -> bool
     ensures { λ r. ⌜ r ≡ hopInRange hop ⌝ }
 {
     (HOP_LEAST <= hop) & (hop <= HOP_MOST)
 }
 
+// Whether all are.
 pub fn are_near(times: &[f64]) -> bool
     ensures { λ r. ⌜ r ≡ every near (now (times .entry)) ⌝ }
 {
@@ -57,6 +63,7 @@ pub fn are_near(times: &[f64]) -> bool
     true
 }
 
+// Whether all are.
 pub fn are_near_or_not_finite(times: &[f64]) -> bool
     ensures { λ r. ⌜ r ≡ every nearOrNotFinite (now (times .entry)) ⌝ }
 {
@@ -70,6 +77,7 @@ pub fn are_near_or_not_finite(times: &[f64]) -> bool
     true
 }
 
+// Whether all are.
 pub fn are_valid_energies(energies: &[f64]) -> bool
     ensures { λ r. ⌜ r ≡ every validEnergy (now (energies .entry)) ⌝ }
 {

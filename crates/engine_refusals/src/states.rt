@@ -21,12 +21,14 @@ use engine_spec::types::Settings;
 use engine_spec::types::Snapshot;
 use numbers::float::is_finite;
 
+// A duration is finite and above 0; -0.0 is not.
 fn is_valid_duration(d: f64) -> bool
     ensures { λ r. ⌜ r ≡ validDuration d ⌝ }
 {
     is_finite(d) & (d > 0.0)
 }
 
+// 1: `Configuration::validate`.
 pub fn is_valid_configuration(c: Configuration) -> bool
     ensures { λ r. ⌜ r ≡ validConfiguration c ⌝ }
 {
@@ -38,18 +40,21 @@ pub fn is_valid_configuration(c: Configuration) -> bool
                         & (c.minimum_active_frame_fraction <= 1.0)))))
 }
 
+// 3: the reference's size.
 pub fn are_counts(frames: usize, bands: usize) -> bool
     ensures { λ r. ⌜ r ≡ countsInRange frames bands ⌝ }
 {
     (frames <= FRAMES_MOST) & (bands <= BANDS_MOST)
 }
 
+// Frames and bands: both 0, or neither.
 fn is_both_or_neither(frames: usize, bands: usize) -> bool
     ensures { λ r. ⌜ r ≡ bothOrNeither frames bands ⌝ }
 {
     ((frames == 0) & (bands == 0)) | ((0 < frames) & (0 < bands))
 }
 
+// What is fixed at opening.
 fn is_valid_settings(s: Settings) -> bool
     ensures { λ r. ⌜ r ≡ validSettings s ⌝ }
 {
@@ -62,6 +67,7 @@ fn is_valid_settings(s: Settings) -> bool
                 & (is_both_or_neither(frames, bands) & is_near(s.reference_start_ms.0))))
 }
 
+// All four numbers of a place.
 fn is_valid_hypothesis(h: Hypothesis) -> bool
     ensures { λ r. ⌜ r ≡ validHypothesis h ⌝ }
 {
@@ -80,12 +86,14 @@ fn is_valid_hypothesis(h: Hypothesis) -> bool
     }
 }
 
+// The search time may be minus infinity.
 fn is_valid_search_time(t: RecordedMs) -> bool
     ensures { λ r. ⌜ r ≡ validSearchTime t ⌝ }
 {
     is_near(t.0) | (t.0 == -1.0 / 0.0)
 }
 
+// Pending, accepted and the search time.
 fn is_valid_lock(l: Lock) -> bool
     ensures { λ r. ⌜ r ≡ validLock l ⌝ }
 {
@@ -95,6 +103,7 @@ fn is_valid_lock(l: Lock) -> bool
     is_valid_hypothesis(pending) & (is_valid_hypothesis(accepted) & is_valid_search_time(search))
 }
 
+// A reading is finite, however large.
 fn is_valid_milestone(m: Milestone) -> bool
     ensures { λ r. ⌜ r ≡ validMilestone m ⌝ }
 {
@@ -104,6 +113,7 @@ fn is_valid_milestone(m: Milestone) -> bool
     }
 }
 
+// All three.
 fn are_valid_milestones(m: Milestones) -> bool
     ensures { λ r. ⌜ r ≡ validMilestones m ⌝ }
 {
@@ -113,6 +123,7 @@ fn are_valid_milestones(m: Milestones) -> bool
     is_valid_milestone(first) & (is_valid_milestone(confirmed) & is_valid_milestone(last))
 }
 
+// The last computed window's endpoint.
 fn is_valid_endpoint(e: Endpoint) -> bool
     ensures { λ r. ⌜ r ≡ validEndpoint e ⌝ }
 {
@@ -122,6 +133,7 @@ fn is_valid_endpoint(e: Endpoint) -> bool
     }
 }
 
+// All three numbers of an estimate.
 fn is_valid_estimate(e: Estimate) -> bool
     ensures { λ r. ⌜ r ≡ validEstimate e ⌝ }
 {
@@ -148,6 +160,7 @@ fn is_valid_snapshot(s: Snapshot) -> bool
     (shown <= CANDIDATES_MOST) & (is_valid_estimate(estimate) & are_valid_milestones(milestones))
 }
 
+// Where there is no last snapshot, nothing is asked of one.
 fn is_valid_last(l: Last) -> bool
     ensures { λ r. ⌜ r ≡ validLast l ⌝ }
 {
@@ -156,6 +169,7 @@ fn is_valid_last(l: Last) -> bool
     is_valid_endpoint(endpoint) & (!l.has_snapshot | is_valid_snapshot(snapshot))
 }
 
+// 7: everything that a state holds.
 pub fn is_valid_engine(e: Engine) -> bool
     ensures { λ r. ⌜ r ≡ validEngine e ⌝ }
 {

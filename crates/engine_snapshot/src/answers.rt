@@ -22,7 +22,8 @@ use engine_spec::types::RecordedMs;
 use engine_spec::types::Snapshot;
 use engine_spec::types::Submitted;
 
-// The last snapshot with its estimate moved to this endpoint.
+// A re-reading: the last snapshot with its estimate moved to this endpoint and the engine's own
+// milestones. The engine stays as it is.
 pub fn reread(engine: Engine, endpoint: RecordedMs) -> Submitted
     ensures { λ r. ⌜ r ≡ reread engine (endingAt endpoint) ⌝ }
 {
@@ -53,6 +54,7 @@ pub fn reread(engine: Engine, endpoint: RecordedMs) -> Submitted
     }
 }
 
+// An estimate moved to another endpoint.
 fn moved(endpoint: RecordedMs, e: Estimate) -> Estimate
     ensures { λ r. ⌜ r ≡ moved (endingAt endpoint) e ⌝ }
 {
@@ -66,7 +68,7 @@ fn moved(endpoint: RecordedMs, e: Estimate) -> Estimate
     }
 }
 
-// The state after a decision.
+// A computed answer, and the one place where the next engine is made.
 pub fn computed_from(
     engine: Engine,
     bands: usize,

@@ -15,6 +15,7 @@ use matcher_picks::candidates::MatchResult;
 use numbers::float::at_least;
 use numbers::whole::count;
 
+// All candidates share the comparable frames and the coverage; behind the last stand blank ones.
 pub fn candidate_array(
     comparable: usize,
     coverage: f64,
@@ -41,6 +42,7 @@ pub fn candidate_array(
     rows
 }
 
+// How many there are.
 pub fn found_count(found: MatchResult) -> usize
     requires { ⌜ found .count ≤ 8 ⌝ }
     ensures { λ r. ⌜ r ≡ length (listed found) ⌝ }
@@ -48,6 +50,7 @@ pub fn found_count(found: MatchResult) -> usize
     found.count
 }
 
+// The window's frames less those that centring trims, here too without the floor of 1.
 pub fn comparable_frames(
     hop: f64,
     bands: usize,
@@ -61,6 +64,7 @@ pub fn comparable_frames(
     less(less(times.len(), trimmed), trimmed)
 }
 
+// The part of the window that centring leaves, by its duration.
 pub fn coverage(bands: usize, times: &[f64], energies: &[f64], values: &[f32]) -> f64
     requires { ⌜ 0 < length (now times) ⌝ }
     ensures { λ r. ⌜ r ≡ coverage (window bands (now (times .entry)) (now (energies .entry)) (now (values .entry))) ⌝ }
@@ -70,6 +74,7 @@ pub fn coverage(bands: usize, times: &[f64], energies: &[f64], values: &[f32]) -
     at_least(0.0, (duration - TRIMMED_MS) / at_least(1.0, duration))
 }
 
+// What stands behind the last candidate.
 pub fn blank_candidate() -> CandidateDiagnostics
     ensures { λ r. ⌜ r ≡ blankCandidate ⌝ }
 {

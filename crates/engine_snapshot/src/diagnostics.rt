@@ -26,6 +26,7 @@ use matcher_picks::candidates::MatchResult;
 use matcher_picks::candidates::margin;
 use numbers::whole::count;
 
+// All diagnostics. The track is counted as it stands after the window.
 pub fn diagnostics_of(
     settings: Settings,
     bands: usize,
@@ -73,6 +74,7 @@ pub fn diagnostics_of(
     }
 }
 
+// The magnitude of a number that may be missing.
 fn magnitude_of(m: Maybe) -> Maybe
     ensures { λ r. ⌜ r ≡ magnitudeOf m ⌝ }
 {
@@ -82,7 +84,7 @@ fn magnitude_of(m: Maybe) -> Maybe
     }
 }
 
-// |x|: of either zero +0.
+// |x|: the sign bit is cleared, so that either zero gives +0.
 fn magnitude(x: f64) -> f64
     ensures { λ r. ⌜ r ≡ magnitude x ⌝ }
 {
@@ -95,6 +97,7 @@ fn magnitude(x: f64) -> f64
     x
 }
 
+// 1 with a track, 0 without.
 fn track_count(h: Hypothesis) -> usize
     ensures { λ r. ⌜ r ≡ trackCount h ⌝ }
 {
@@ -109,6 +112,7 @@ fn track_count(h: Hypothesis) -> usize
     }
 }
 
+// The margin of a whole search, or 0.
 fn dense_margin(global: bool, found: MatchResult) -> f64
     requires { ⌜ found .count ≤ 8 ⌝ }
     ensures { λ r. ⌜ r ≡ cond global (marginOf (listed found)) zero⁺ ⌝ }
@@ -119,6 +123,7 @@ fn dense_margin(global: bool, found: MatchResult) -> f64
     0.0
 }
 
+// Whether a track is shown.
 pub fn is_publishing(s: State) -> bool
     ensures { λ r. ⌜ r ≡ isPublishing s ⌝ }
 {

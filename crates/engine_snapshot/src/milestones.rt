@@ -7,6 +7,7 @@ use engine_spec::types::ClockMs;
 use engine_spec::types::Milestone;
 use engine_spec::types::Milestones;
 
+// Which milestones are there: all that a decision knows of them.
 pub fn reached_by(m: Milestones) -> Reached
     ensures { λ r. ⌜ reachedIn r ≡ reachedBy m ⌝ }
 {
@@ -23,6 +24,7 @@ pub fn reached_by(m: Milestones) -> Reached
     }
 }
 
+// The one place where a clock reading is written.
 pub fn stamp(m: Milestones, k: Reached, clock: ClockMs) -> Milestones
     ensures { λ r. ⌜ r ≡ stamp m (reachedIn k) clock ⌝ }
 {
@@ -39,6 +41,7 @@ pub fn stamp(m: Milestones, k: Reached, clock: ClockMs) -> Milestones
     }
 }
 
+// A milestone that is reached keeps its reading, or takes the clock's if it has none.
 fn stamped_once(there: bool, old: Milestone, clock: ClockMs) -> Milestone
     ensures { λ r. ⌜ r ≡ stampedOnce there old clock ⌝ }
 {
@@ -51,6 +54,8 @@ fn stamped_once(there: bool, old: Milestone, clock: ClockMs) -> Milestone
     }
 }
 
+// Confirmed takes the clock's reading together with final, even where it has one: only a state made
+// by a caller has it before.
 fn stamped_with_final(there: bool, last: Milestone, old: Milestone, clock: ClockMs) -> Milestone
     ensures { λ r. ⌜ r ≡ stampedWithFinal there last old clock ⌝ }
 {
@@ -63,6 +68,7 @@ fn stamped_with_final(there: bool, last: Milestone, old: Milestone, clock: Clock
     }
 }
 
+// Whether a milestone has a reading.
 fn is_there(m: Milestone) -> bool
     ensures { λ r. ⌜ r ≡ isThere m ⌝ }
 {

@@ -29,6 +29,7 @@ use engine_spec::types::State;
 use matcher_picks::candidates::Candidate;
 use numbers::whole::count;
 
+// The one place where a snapshot is made of a decision; the milestones' readings are as given.
 pub fn publish(
     settings: Settings,
     bands: usize,
@@ -65,6 +66,7 @@ pub fn publish(
     }
 }
 
+// The furthest milestone that is there.
 fn phase_of(k: Reached) -> LockPhase
     ensures { λ r. ⌜ r ≡ phaseOf (reachedIn k) ⌝ }
 {
@@ -80,6 +82,7 @@ fn phase_of(k: Reached) -> LockPhase
     LockPhase::None
 }
 
+// Tracking where a track is shown, else by whether a whole search was made.
 fn stage_of(s: State, global: bool) -> Stage
     ensures { λ r. ⌜ r ≡ stageOf s global ⌝ }
 {
@@ -92,6 +95,7 @@ fn stage_of(s: State, global: bool) -> Stage
     Stage::Readiness
 }
 
+// The offset added to the window's endpoint is the place on the reference.
 pub fn estimate_at(endpoint: RecordedMs, offset: Maybe) -> Estimate
     ensures { λ r. ⌜ r ≡ estimateAt (endingAt endpoint) offset ⌝ }
 {
@@ -105,6 +109,7 @@ pub fn estimate_at(endpoint: RecordedMs, offset: Maybe) -> Estimate
     }
 }
 
+// The correlation, less by the part of 1,500 that was coasted; 0 without an estimate.
 fn confidence_of(offset: Maybe, correlation: f64, coast: f64) -> f64
     ensures { λ r. ⌜ r ≡ confidenceOf offset correlation coast ⌝ }
 {
@@ -131,6 +136,7 @@ fn correlation_of(d: Decision) -> f64
     best.score
 }
 
+// 0 without a track.
 fn track_correlation(h: Hypothesis) -> f64
     ensures { λ r. ⌜ r ≡ trackCorrelation h ⌝ }
 {
@@ -145,6 +151,7 @@ fn track_correlation(h: Hypothesis) -> f64
     }
 }
 
+// `clamp`, which keeps -0.0.
 fn between_zero_and_one(x: f64) -> f64
     ensures { λ r. ⌜ r ≡ betweenZeroAndOne x ⌝ }
 {

@@ -18,6 +18,7 @@ use matcher_picks::candidates::margin;
 use numbers::float::at_least;
 use numbers::whole::count;
 
+// The best candidate's correlations, the margin of a whole search, pending's evidence, the coast.
 pub fn spectral_of(d: Decision) -> SpectralDiagnostics
     requires { ⌜ d .found .count ≤ 8 ⌝ }
     ensures { λ r. ⌜ r ≡ spectralOf (decisionIn d) ⌝ }
@@ -58,6 +59,7 @@ pub fn best_or_blank(found: MatchResult) -> Candidate
     best_of(found)
 }
 
+// How long the evidence for pending spans.
 fn fresh_evidence(pending: Hypothesis) -> f64
     ensures { λ r. ⌜ r ≡ freshEvidence pending ⌝ }
 {
@@ -72,6 +74,7 @@ fn fresh_evidence(pending: Hypothesis) -> f64
     }
 }
 
+// Only a whole search has a competing peak.
 fn margin_if(global: bool, found: MatchResult) -> Maybe
     requires { ⌜ found .count ≤ 8 ⌝ }
     ensures { λ r. ⌜ r ≡ cond global (maybe.Is (marginOf (listed found))) maybe.Absent ⌝ }

@@ -6,15 +6,9 @@ use Rattle.engine_spec.specs.Opening.{noEngine}
 use Rattle.engine.proofs.fresh.no_engine.Statement.{statement}
 use Rattle.engine.proofs.fresh.no_engine.Tie as tie
 
-without-index-requires : tie.Need-without-index-requires
-without-index-requires c κs = search needs
-
-fresh-engine-requires : tie.Need-fresh-engine-requires
-fresh-engine-requires c κs = search needs
-
 returns : tie.Need-returns
 unfolding noEngine ofBits
 returns c = rw (c .fresh-engine .ensures, c .before .without-index .ensures) refl
 
 pub no-engine-spec : {M : Type 1} → statement M
-no-engine-spec = tie.close (tie.spec without-index-requires fresh-engine-requires returns)
+no-engine-spec = tie.close (tie.spec (λ c κs. search needs) (λ c κs. search needs) returns)

@@ -4,11 +4,8 @@ use borrow.Author.Needs.{needs}
 use Rattle.engine.proofs.submitting.refused.Statement.{statement}
 use Rattle.engine.proofs.submitting.refused.Tie as tie
 
-blank-snapshot-requires : tie.Need-blank-snapshot-requires
-blank-snapshot-requires c κs = search needs
-
 returns : tie.Need-returns
 returns c = rw (c .blank-snapshot .ensures) refl
 
 pub refused-spec : {M : Type 1} → statement M
-refused-spec = tie.close (tie.spec blank-snapshot-requires returns)
+refused-spec = tie.close (tie.spec (λ c κs. search needs) returns)

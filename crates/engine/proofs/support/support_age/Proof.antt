@@ -5,15 +5,9 @@ use Rattle.engine_spec.specs.SupportAge.{supportAge}
 use Rattle.engine.proofs.support.support_age.Statement.{statement}
 use Rattle.engine.proofs.support.support_age.Tie as tie
 
-is-valid-engine-requires : tie.Need-is-valid-engine-requires
-is-valid-engine-requires c κs = search needs
-
 returns : tie.Need-returns
 unfolding supportAge
 returns c = simp (← (c .before .is-valid-engine .ensures), not-true (c .before .is-valid-engine .result) (c .if1 .taken))
-
-is-locked-requires : tie.Need-is-locked-requires
-is-locked-requires c κs = search needs
 
 returns-2 : tie.Need-returns-2
 unfolding supportAge
@@ -25,4 +19,4 @@ returns-3 c = simp (← (c .before .before .before .before .before .before .is-v
 
 pub support-age-spec : {M : Type 1} → statement M
 support-age-spec =
-    tie.close (tie.spec is-valid-engine-requires returns is-locked-requires returns-2 returns-3)
+    tie.close (tie.spec (λ c κs. search needs) returns (λ c κs. search needs) returns-2 returns-3)

@@ -9,8 +9,4 @@ returns-2 c = simp (c .before .h .given .1)
 pub offset-of-spec : {M : Type 1} → statement M
 offset-of-spec =
     tie.close
-    (tie.spec
-    (λ c. search needs)
-    (λ c. search needs)
-    (λ c. search needs)
-    returns-2)
+    (tie.spec (λ c. search needs) (λ c. search needs) (λ c. search needs) returns-2)

@@ -7,15 +7,6 @@ use Rattle.engine_decision.proofs.windows.is_reread.Tie as tie
 returns : tie.Need-returns
 returns c = simp (not-true (c .before .before .before .before .before .args .last .«has_snapshot») (c .if1 .taken))
 
-enum-told : tie.Need-enum-told
-enum-told c = search needs
-
-enum-known-endpoint : tie.Need-enum-known-endpoint
-enum-known-endpoint c = search needs
-
-rereads-from-requires : tie.Need-rereads-from-requires
-rereads-from-requires c κs = search needs
-
 returns-2 : tie.Need-returns-2
 returns-2 c = simp (not-false (c .before .before .before .before .before .before .before .args .last .«has_snapshot») (c .before .before .if1 .left), c .enum-told .given .1)
 
@@ -25,4 +16,10 @@ returns-3 c = simp (not-false (c .before .before .before .before .before .before
 pub is-reread-spec : {M : Type 1} → statement M
 is-reread-spec =
     tie.close
-    (tie.spec returns enum-told enum-known-endpoint rereads-from-requires returns-2 returns-3)
+    (tie.spec
+    returns
+    (λ c. search needs)
+    (λ c. search needs)
+    (λ c κs. search needs)
+    returns-2
+    returns-3)

@@ -3,18 +3,6 @@ use borrow.Author.Needs.{needs}
 use Rattle.engine_decision.proofs.windows.lock_from.Statement.{statement}
 use Rattle.engine_decision.proofs.windows.lock_from.Tie as tie
 
-enum-told : tie.Need-enum-told
-enum-told c = search needs
-
-enum-known-endpoint : tie.Need-enum-known-endpoint
-enum-known-endpoint c = search needs
-
-jumps-from-requires : tie.Need-jumps-from-requires
-jumps-from-requires c κs = search needs
-
-no-lock-requires : tie.Need-no-lock-requires
-no-lock-requires c κs = search needs
-
 returns : tie.Need-returns
 returns c = simp (c .enum-told .given .1)
 
@@ -28,10 +16,10 @@ pub lock-from-spec : {M : Type 1} → statement M
 lock-from-spec =
     tie.close
     (tie.spec
-    enum-told
-    enum-known-endpoint
-    jumps-from-requires
-    no-lock-requires
+    (λ c. search needs)
+    (λ c. search needs)
+    (λ c κs. search needs)
+    (λ c κs. search needs)
     returns
     returns-2
     returns-3)

@@ -8,21 +8,6 @@ use Rattle.engine_snapshot.proofs.PublishLaws.{computed-is}
 use Rattle.engine_snapshot.proofs.answers.computed_from.Statement.{statement}
 use Rattle.engine_snapshot.proofs.answers.computed_from.Tie as tie
 
-sub-t18 : tie.Need-sub-t18
-sub-t18 c = search needs
-
-mul-t19 : tie.Need-mul-t19
-mul-t19 c = search needs
-
-shared-slice-read-t21 : tie.Need-shared-slice-read-t21
-shared-slice-read-t21 c = search needs
-
-stamp-requires : tie.Need-stamp-requires
-stamp-requires c κs = search needs
-
-publish-requires : tie.Need-publish-requires
-publish-requires c κs = search needs
-
 returns : tie.Need-returns
 returns c =
     let a = c .before .before .before .before .before .before .before .before .before .before .args in
@@ -32,4 +17,10 @@ returns c =
 pub computed-from-spec : {M : Type 1} → statement M
 computed-from-spec =
     tie.close
-    (tie.spec sub-t18 mul-t19 shared-slice-read-t21 stamp-requires publish-requires returns)
+    (tie.spec
+    (λ c. search needs)
+    (λ c. search needs)
+    (λ c. search needs)
+    (λ c κs. search needs)
+    (λ c κs. search needs)
+    returns)

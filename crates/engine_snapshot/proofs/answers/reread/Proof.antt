@@ -5,12 +5,9 @@ use Rattle.engine_spec.specs.Submitting.{reread}
 use Rattle.engine_snapshot.proofs.answers.reread.Statement.{statement}
 use Rattle.engine_snapshot.proofs.answers.reread.Tie as tie
 
-moved-requires : tie.Need-moved-requires
-moved-requires c κs = search needs
-
 returns : tie.Need-returns
 unfolding reread
 returns c = rw (c .before .moved .ensures) refl
 
 pub reread-spec : {M : Type 1} → statement M
-reread-spec = tie.close (tie.spec moved-requires returns)
+reread-spec = tie.close (tie.spec (λ c κs. search needs) returns)

@@ -7,12 +7,6 @@ use Rattle.engine_snapshot.proofs.milestones.stamped_with_final.Tie as 
 returns : tie.Need-returns
 returns c = simp (not-true (c .before .args .there) (c .if1 .taken))
 
-enum-told : tie.Need-enum-told
-enum-told c = search needs
-
-enum-told-2 : tie.Need-enum-told-2
-enum-told-2 c = search needs
-
 returns-2 : tie.Need-returns-2
 returns-2 c = simp (not-false (c .before .before .before .args .there) (c .before .before .if1 .left), c .enum-told .given .1)
 
@@ -20,4 +14,11 @@ returns-3 : tie.Need-returns-3
 returns-3 c = simp (not-false (c .before .before .before .args .there) (c .before .before .if1 .left), c .enum-told2 .given .1)
 
 pub stamped-with-final-spec : {M : Type 1} → statement M
-stamped-with-final-spec = tie.close (tie.spec returns enum-told enum-told-2 returns-2 returns-3)
+stamped-with-final-spec =
+    tie.close
+    (tie.spec
+    returns
+    (λ c. search needs)
+    (λ c. search needs)
+    returns-2
+    returns-3)
