@@ -4,19 +4,18 @@ ghost use mathlib.Core.Bool.{true};
 ghost use mathlib.Core.Path.{_≡_};
 ghost use Rattle.matcher_laws.specs.Words.{Every, F32};
 ghost use Rattle.engine_spec.specs.Refusals.{refuses};
-ghost use Rattle.engine_spec.specs.Submitting.{submit, answeredFrom, refused, reread};
+ghost use Rattle.engine_spec.specs.Submitting.{answeredFrom, submit};
 ghost use Rattle.engine_spec.specs.Lent.{handed, lent, window};
 ghost use Rattle.engine_spec.specs.Room.{Room};
-use crate::fresh::blank_snapshot;
+use engine_answers::answers::computed_from;
+use engine_answers::answers::refused;
+use engine_answers::answers::reread;
+use engine_answers::milestones::reached_by;
 use engine_decision::decide::decide;
 use engine_decision::windows::is_reread;
 use engine_decision::windows::lock_from;
-use engine_refusals::handed::is_refusal;
 use engine_refusals::handed::submission_refusal;
-use engine_snapshot::answers::computed_from;
-use engine_snapshot::answers::reread;
-use engine_snapshot::milestones::reached_by;
-use engine_spec::types::Answer;
+use engine_refusals::refusals::is_refusal;
 use engine_spec::types::ClockMs;
 use engine_spec::types::Engine;
 use engine_spec::types::RecordedMs;
@@ -121,16 +120,4 @@ fn answered(
         work64,
     );
     computed_from(engine, bands, times, energies, values, clock, d)
-}
-
-// The same engine, and no snapshot.
-pub fn refused(engine: Engine, answer: Answer) -> Submitted
-    ensures { λ r. ⌜ r ≡ refused engine answer ⌝ }
-{
-    let snapshot = blank_snapshot();
-    Submitted {
-        answer,
-        engine,
-        snapshot,
-    }
 }

@@ -2,7 +2,7 @@
 ghost use Prim.Native.Nat.{_≤_};
 ghost use lib.ListN.{length};
 ghost use mathlib.Core.Path.{_≡_};
-ghost use Rattle.engine_spec.specs.Refusals.{handedRefusal, indexFits, openingRefusal, refuses, submissionRefusal, validWindow, workFits};
+ghost use Rattle.engine_spec.specs.Refusals.{handedRefusal, indexFits, openingRefusal, submissionRefusal, validWindow, workFits};
 ghost use Rattle.engine_spec.specs.Lent.{film, handed, lent, window};
 use crate::ranges::are_near;
 use crate::ranges::are_near_or_not_finite;
@@ -20,30 +20,6 @@ use engine_spec::types::Engine;
 use engine_spec::types::Settings;
 use matcher_bands::timeline::are_valid;
 use numbers::float::is_finite;
-
-// Every answer that has a number.
-pub fn is_refusal(a: Answer) -> bool
-    ensures { λ r. ⌜ r ≡ refuses a ⌝ }
-{
-    match a {
-        Answer::Opened => false,
-        Answer::Computed => false,
-        Answer::Reread => false,
-        Answer::InvalidConfiguration => true,
-        Answer::HopOutOfRange => true,
-        Answer::ReferenceTooLarge => true,
-        Answer::ReferenceMiscounted => true,
-        Answer::ReferenceTimeTooFar => true,
-        Answer::IndexTooShort => true,
-        Answer::StateOutOfRange => true,
-        Answer::ClockNotFinite => true,
-        Answer::NoFrames => true,
-        Answer::WindowTooLarge => true,
-        Answer::WindowInvalid => true,
-        Answer::WindowTimeOutOfRange => true,
-        Answer::WorkTooShort => true,
-    }
-}
 
 // 6: the index holds a row of frames and one of a quarter of them for each band, with an energy more
 // than values in a row.

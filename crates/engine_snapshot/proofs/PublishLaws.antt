@@ -1,8 +1,8 @@
 -- A snapshot put together from its parts. Assumes nothing.
 use Prim.Native.Nat.{ℕ, _-_, _*_}
-use mathlib.Core.Bool.{Bool, cond, _&&_, true}
+use mathlib.Core.Bool.{Bool, cond, _&&_}
 use mathlib.Core.List.{List}
-use mathlib.Core.Path.{_≡_, refl, ap, _∙_}
+use mathlib.Core.Path.{_≡_, refl}
 use lib.ListN.{length}
 use lib.Ieee.{Float, eq}
 use native.Mathlib.Omega.{arith}
@@ -25,14 +25,7 @@ use Rattle.engine_spec.specs.declared.types.Snapshot.{Snapshot}
 use Rattle.engine_spec.specs.declared.types.Maybe.the-variants as maybe
 use Rattle.engine_spec.specs.declared.types.WithholdReason.the-variants as reason
 use Rattle.engine_lock.specs.Views.{endingAt}
-use Rattle.engine_spec.specs.Refusals.{Submission}
-use Rattle.engine_spec.specs.Publishing as publishing
-use Rattle.engine_spec.specs.Submitting.{stamp, computedFrom}
-use Rattle.engine_spec.specs.declared.types.Engine.{Engine}
-use Rattle.engine_spec.specs.declared.types.Answer.the-variants as answer
-use Rattle.engine_spec.specs.declared.types.Endpoint.the-variants as endpoint
 use Rattle.engine_spec.specs.declared.types.Estimate.the-variants as estimate
-use Rattle.engine_spec.specs.declared.types.Submitted.{Submitted}
 
 pub twice-less : (n k : ℕ) → n - k - k ≡ n - 2 * k
 twice-less n k = omega arith
@@ -81,20 +74,3 @@ module _ (s : Settings) (w : Window) (d : Decision) where
     candidates = c i;
     spectral = q i;
   }
-
--- a computed answer put together from its parts
-pub computed-is : (e : Engine) (i : Submission) (d : publishing.Decision) {m : Milestones} {s : Snapshot}
-    → m ≡ stamp (e .milestones) (d .reached) (i .clock) → s ≡ publish (e .settings) (i .window) d m
-    → _≡_ {A = Submitted} record {
-      answer = answer.Computed;
-      engine = record { settings = e .settings; lock = d .lock; milestones = m; last = record { «endpoint_ms» = endpoint.At (endpointOf (i .window)); «has_snapshot» = true; snapshot = s } };
-      snapshot = s;
-    } (computedFrom e i d)
-unfolding computedFrom
-computed-is e i d p q =
-    let r = q ∙ ap (λ (x : Milestones). publish (e .settings) (i .window) d x) p in
-    λ j. record {
-      answer = answer.Computed;
-      engine = record { settings = e .settings; lock = d .lock; milestones = p j; last = record { «endpoint_ms» = endpoint.At (endpointOf (i .window)); «has_snapshot» = true; snapshot = r j } };
-      snapshot = r j;
-    }

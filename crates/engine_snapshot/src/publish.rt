@@ -125,10 +125,10 @@ fn correlation_of(d: Decision) -> f64
     ensures { λ r. ⌜ r ≡ cond (isPublishing (d .verdict .state)) (trackCorrelation (d .lock .accepted)) (ofBest (λ (c : Candidate). c .score) (listed (d .found))) ⌝ }
 {
     let verdict = d.verdict;
-    let state = verdict.state;
+    let shown = verdict.state;
     let lock = d.lock;
     let accepted = lock.accepted;
-    if is_publishing(state) {
+    if is_publishing(shown) {
         return track_correlation(accepted);
     }
     let found = d.found;

@@ -1,0 +1,121 @@
+// The answers to a window: refused, read again, or computed.
+ghost use Prim.Native.Nat.{_<_, _≤_};
+ghost use lib.ListN.{length};
+ghost use mathlib.Core.List.{[]};
+ghost use mathlib.Core.Path.{_≡_};
+ghost use Rattle.engine_spec.specs.Submitting.{computedFrom, moved, refused, reread};
+ghost use Rattle.engine_spec.specs.Lent.{handed, lent, window};
+ghost use Rattle.engine_lock.specs.Views.{endingAt};
+ghost use Rattle.engine_decision.specs.Decided.{decisionIn};
+use crate::fresh::blank_snapshot;
+use crate::milestones::stamp;
+use engine_decision::kinds::Decision;
+use engine_snapshot::publish::estimate_at;
+use engine_snapshot::publish::publish;
+use engine_spec::types::Answer;
+use engine_spec::types::ClockMs;
+use engine_spec::types::Endpoint;
+use engine_spec::types::Engine;
+use engine_spec::types::Estimate;
+use engine_spec::types::Last;
+use engine_spec::types::Maybe;
+use engine_spec::types::RecordedMs;
+use engine_spec::types::Snapshot;
+use engine_spec::types::Submitted;
+
+// A re-reading: the last snapshot with its estimate moved to this endpoint and the engine's own
+// milestones. The engine stays as it is.
+pub fn reread(engine: Engine, endpoint: RecordedMs) -> Submitted
+    ensures { λ r. ⌜ r ≡ reread engine (endingAt endpoint) ⌝ }
+{
+    let last = engine.last;
+    let s = last.snapshot;
+    let milestones = engine.milestones;
+    let state = s.state;
+    let phase = s.phase;
+    let stage = s.stage;
+    let old = s.estimate;
+    let estimate = moved(endpoint, old);
+    let withhold_reason = s.withhold_reason;
+    let diagnostics = s.diagnostics;
+    let snapshot = Snapshot {
+        state,
+        phase,
+        stage,
+        estimate,
+        withhold_reason,
+        confidence: s.confidence,
+        diagnostics,
+        milestones,
+    };
+    Submitted {
+        answer: Answer::Reread,
+        engine,
+        snapshot,
+    }
+}
+
+// An estimate moved to another endpoint.
+fn moved(endpoint: RecordedMs, e: Estimate) -> Estimate
+    ensures { λ r. ⌜ r ≡ moved (endingAt endpoint) e ⌝ }
+{
+    match e {
+        Estimate::Absent => Estimate::Absent,
+        Estimate::At {
+            query_endpoint_recorded_time_ms: _,
+            reference_time_ms: _,
+            offset_ms,
+        } => estimate_at(endpoint, Maybe::Is(offset_ms)),
+    }
+}
+
+// A computed answer, and the one place where the next engine is made.
+pub fn computed_from(
+    engine: Engine,
+    bands: usize,
+    times: &[f64],
+    energies: &[f64],
+    values: &[f32],
+    clock: ClockMs,
+    d: Decision,
+) -> Submitted
+    requires { ⌜ d .found .count ≤ 8 ⌝ ∗ ⌜ 0 < length (now times) ⌝ ∗ ⌜ length (now times) ≤ length (now energies) ⌝ }
+    ensures { λ r. ⌜ r ≡ computedFrom engine (handed (lent [] [] [] []) (window bands (now (times .entry)) (now (energies .entry)) (now (values .entry))) clock 0 0) (decisionIn d) ⌝ }
+{
+    let n = times.len();
+    let endpoint = RecordedMs(times[n - 1]);
+    let settings = engine.settings;
+    let old = engine.milestones;
+    let reached = d.reached;
+    let lock = d.lock;
+    let milestones = stamp(old, reached, clock);
+    let snapshot = publish(settings, bands, times, energies, values, d, milestones);
+    let last = Last {
+        endpoint_ms: Endpoint::At(endpoint),
+        has_snapshot: true,
+        snapshot,
+    };
+    let next = Engine {
+        settings,
+        lock,
+        milestones,
+        last,
+    };
+    Submitted {
+        answer: Answer::Computed,
+        engine: next,
+        snapshot,
+    }
+}
+
+// The same engine, and no snapshot.
+pub fn refused(engine: Engine, answer: Answer) -> Submitted
+    ensures { λ r. ⌜ r ≡ refused engine answer ⌝ }
+{
+    let snapshot = blank_snapshot();
+    Submitted {
+        answer,
+        engine,
+        snapshot,
+    }
+}
