@@ -56,15 +56,15 @@ fn stamped_once(there: bool, old: Milestone, clock: ClockMs) -> Milestone
 
 // Confirmed takes the clock's reading together with final, even where it has one: only a state made
 // by a caller has it before.
-fn stamped_with_final(there: bool, last: Milestone, old: Milestone, clock: ClockMs) -> Milestone
-    ensures { λ r. ⌜ r ≡ stampedWithFinal there last old clock ⌝ }
+fn stamped_with_final(reached: bool, last: Milestone, held: Milestone, clock: ClockMs) -> Milestone
+    ensures { λ r. ⌜ r ≡ stampedWithFinal reached last held clock ⌝ }
 {
-    if !there {
-        return old;
+    if !reached {
+        return held;
     }
     match last {
         Milestone::Absent => Milestone::At(clock),
-        Milestone::At(_) => old,
+        Milestone::At(_) => held,
     }
 }
 
