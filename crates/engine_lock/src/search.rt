@@ -197,15 +197,8 @@ fn without_track(
     let endpoint = RecordedMs(times[n - 1]);
     let last = lock.last_global_search_ms;
     let due = is_whole_due(false, endpoint, last);
-    let filled = fill_if(
-        due,
-        reference_of(settings),
-        bands,
-        times,
-        values,
-        work32,
-        work64,
-    );
+    let reference = reference_of(settings);
+    let filled = fill_if(due, reference, bands, times, values, work32, work64);
     let t = unsupported(Hypothesis::Absent, nothing_found());
     then_whole(
         due,
