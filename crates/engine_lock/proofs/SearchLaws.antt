@@ -2,59 +2,39 @@
 use Prim.Native.Nat.{ℕ, zero, suc, _<_, _≤_}
 use native.Mathlib.Omega.{arith}
 use native.Mathlib.Nat.{lt-irrefl}
-use mathlib.Core.Bool.{Bool, true, false, cond, _&&_, _||_, false≢true}
+use mathlib.Core.Bool.{Bool, true, false, cond, false≢true}
 use mathlib.Core.List.{List, [], _∷_}
 use mathlib.Core.Path.{_≡_, refl, sym, ap, subst, _∙_}
 use borrow.Author.Tests.{ne-eqb, lt-ltb}
-use lib.Dec.{T, lit≤, eqb, ltb, ltb→lt, eqb→eq}
 use lib.ListN.{length}
 use lib.Ieee.{Float}
 use Rattle.matcher.specs.Index.{Matcher}
-use Rattle.matcher_bands.specs.Energy.{Bands}
 use Rattle.matcher.specs.declared.index.Reference.{Reference}
 use Rattle.matcher.specs.Search as search
-use Rattle.matcher.specs.Search.{localSearch, localFound, localLow, localHigh, candidateIn, queryOf, queryStart, searchable, wholeSearch}
-use lib.Ieee.{le}
-use lib.Ieee.Scale.{finite}
-use Rattle.numbers.specs.Arithmetic.{countOf}
-use Rattle.matcher_bands.specs.Centring.{radius}
+use Rattle.matcher.specs.Search.{FilledQuery, localSearch, wholeSearch}
 use Rattle.matcher_picks.specs.Candidates.{resultOf, listed}
 use Rattle.matcher_picks.specs.declared.candidates.Candidate.{Candidate}
 use Rattle.matcher_picks.specs.declared.candidates.MatchResult.{MatchResult}
-use Rattle.engine_spec.specs.Windows.{Window, query, evidence, endpointOf}
+use Rattle.engine_spec.specs.Windows.{Index, Window, query, evidence, endpointOf}
+use Rattle.engine_spec.specs.Room.{Room}
+use Rattle.engine_spec.specs.declared.types.Settings.{Settings}
 use Rattle.engine_spec.specs.Refusals.{bothOrNeither}
 use Rattle.engine_spec.specs.Tracking as tracking
-use Rattle.engine_spec.specs.Tracking.{tracked, followed, mayCoast}
+use Rattle.engine_spec.specs.Tracking.{tracked, followed, mayCoast, unsupported}
 use Rattle.numbers.specs.Arithmetic.{_⊕_, _⊖_}
 use Rattle.engine_spec.specs.Thresholds.{localMs}
 use Rattle.engine_spec.specs.declared.types.RecordedMs.{RecordedMs}
 use Rattle.engine_spec.specs.declared.types.Hypothesis.the-variants as hypothesis
 use Rattle.matcher_picks.proofs.CandidateLaws.{listed-result}
-use Rattle.engine_lock.proofs.LockLaws.{coasting}
-use Rattle.engine_spec.specs.Locking.{Reached, Searched, passed, notPassed, wholeDue, wholeSearched, locallySearched, searched}
+use Rattle.engine_lock.proofs.LockLaws.{coasting, dropped}
+use Rattle.engine_spec.specs.Locking.{Reached, passed, wholeDue, wholeSearched, locallySearched, searched}
 use Rattle.engine_spec.specs.declared.types.Hypothesis.{Hypothesis}
 use Rattle.engine_spec.specs.declared.types.Lock.{Lock}
-use Rattle.engine_spec.proofs.Tests.{cond-elim, and-l, and-r, or-split}
 use Rattle.engine_lock.specs.Views.{endingAt}
 
 pub evidence-ending : (hop : Float) (w : Window) → evidence hop (endingAt (endpointOf w)) ≡ evidence hop w
 unfolding evidence
 evidence-ending hop w = refl
-
-few-if : (b : Bool) (l : List Candidate) → length l ≤ 8 → length (cond b l []) ≤ 8
-few-if true l h = h
-few-if false l h = lit≤ tt
-
-one : (x : Reference) (fine query : Bands) (start lower upper : Float) → length (localFound x fine query start lower upper) ≤ 8
-unfolding localFound
-one x fine query start lower upper =
-    few-if (finite lower && (finite upper && (le lower upper && le (localLow x fine query start lower) (localHigh x fine query start upper))))
-    (candidateIn x fine query start (countOf (localLow x fine query start lower)) (countOf (localHigh x fine query start upper)) ∷ []) (lit≤ tt)
-
-pub local-few : (x : Reference) (fine : Bands) (w : search.Window) (lower upper : Float) → length (localSearch x fine w lower upper) ≤ 8
-unfolding localSearch
-local-few x fine w lower upper =
-    few-if (searchable x w) (localFound x fine (queryOf (radius (x .«hop_ms»)) w) (queryStart (radius (x .«hop_ms»)) w) lower upper) (one x fine (queryOf (radius (x .«hop_ms»)) w) (queryStart (radius (x .«hop_ms»)) w) lower upper)
 
 pub found-few : (l : List Candidate) {r : MatchResult} → r ≡ resultOf l → length l ≤ 8 → r .count ≤ 8
 found-few l e h = rw e h
@@ -75,27 +55,40 @@ unfolding wholeSearched passed evidence
 whole-ending hop w k pending t [] = refl
 whole-ending hop w k pending t (b ∷ l) = refl
 
-module _ (m : Matcher) (hop : Float) (w : Window) (k : Reached) (l : Lock) {t : tracking.Tracked} (e : t ≡ tracked m hop w (l .accepted)) where
+-- a whole search that found these, by the window's endpoint alone
+pub whole-made : (m : Matcher) (hop : Float) (w : Window) (k : Reached) (pending : Hypothesis) (t : tracking.Tracked) {r : MatchResult} → r ≡ resultOf (wholeSearch m (query w))
+    → wholeSearched hop (endingAt (endpointOf w)) k pending t (listed r) ≡ wholeSearched hop w k pending t (wholeSearch m (query w))
+whole-made m hop w k pending t {r} e =
+    whole-ending hop w k pending t (listed r) ∙ ap (λ (x : List Candidate). wholeSearched hop w k pending t x) (listed-result (wholeSearch m (query w)) e)
+
+-- the searches of a window, by what tracking left and whether a whole search was due
+module _ (m : Matcher) (hop : Float) (w : Window) (k : Reached) (l : Lock) where
   abbrev isDue : tracking.Tracked → Bool
   isDue u = wholeDue (u .supported) (endpointOf w) (l .«last_global_search_ms»)
 
-  pub not-due : isDue t ≡ false → locallySearched k l t ≡ searched m hop w k l
+  pub by-track : {t : tracking.Tracked} {due : Bool} → t ≡ tracked m hop w (l .accepted) → due ≡ isDue t
+      → cond due (wholeSearched hop w k (l .pending) t (wholeSearch m (query w))) (locallySearched k l t) ≡ searched m hop w k l
   unfolding searched
-  not-due h =
-      let q : isDue (tracked m hop w (l .accepted)) ≡ false = sym (ap isDue e) ∙ h in
-      let p : locallySearched k l (tracked m hop w (l .accepted)) ≡ searched m hop w k l = rw q refl in
-      ap (λ (u : tracking.Tracked). locallySearched k l u) e ∙ p
+  by-track {due = due} e d =
+      let q : due ≡ isDue (tracked m hop w (l .accepted)) = d ∙ ap isDue e in
+      (λ i. cond (q i) (wholeSearched hop w k (l .pending) (e i) (wholeSearch m (query w))) (locallySearched k l (e i)))
 
-  pub due : {r : MatchResult} → r ≡ resultOf (wholeSearch m (query w)) → isDue t ≡ true
-      → wholeSearched hop (endingAt (endpointOf w)) k (l .pending) t (listed r) ≡ searched m hop w k l
-  unfolding searched
-  due {r = r} f h =
-      let q : isDue (tracked m hop w (l .accepted)) ≡ true = sym (ap isDue e) ∙ h in
-      let p : wholeSearched hop w k (l .pending) (tracked m hop w (l .accepted)) (wholeSearch m (query w)) ≡ searched m hop w k l = rw q refl in
-      whole-ending hop w k (l .pending) t (listed r)
-      ∙ ap (λ (x : List Candidate). wholeSearched hop w k (l .pending) t x) (listed-result (wholeSearch m (query w)) f)
-      ∙ ap (λ (u : tracking.Tracked). wholeSearched hop w k (l .pending) u (wholeSearch m (query w))) e
-      ∙ p
+-- without a track that may coast
+pub untracked : (m : Matcher) (hop : Float) (w : Window) (accepted : Hypothesis) {now : RecordedMs} {r : Bool} → evidence hop w ≡ now
+    → ((offset : Float) (first last : RecordedMs) (correlation : Float) → accepted ≡ hypothesis.Held offset first last correlation → r ≡ mayCoast now last)
+    → r ≡ false → unsupported hypothesis.Absent [] ≡ tracked m hop w accepted
+unfolding tracked
+untracked m hop w hypothesis.Absent e h f = refl
+untracked m hop w (hypothesis.Held offset first last correlation) {now} e h f = dropped offset first last correlation now m hop w e (sym (h offset first last correlation refl) ∙ f)
+
+-- ---- what is handed on from call to call
+-- the room of buffers that kept their lengths
+pub room-kept : {s : Settings} {x : Index} {w : Window} {room32 room64 now32 now64 : ℕ} → now32 ≡ room32 → now64 ≡ room64 → Room s x w room32 room64 → Room s x w now32 now64
+room-kept {s} {x} {w} {room32} {now64 = now64} e f r = subst (λ (k : ℕ). Room s x w k now64) (sym e) (subst (λ (k : ℕ). Room s x w room32 k) (sym f) r)
+
+-- the query of a reference that is said in other words
+pub filled-of : {x y : Reference} {w : search.Window} {filled : Bool} {work32 work64 : List Float} → x ≡ y → FilledQuery x w filled work32 work64 → FilledQuery y w filled work32 work64
+filled-of {w = w} {filled} {work32} {work64} e f = subst (λ (z : Reference). FilledQuery z w filled work32 work64) e f
 
 module _ (offset : Float) (first last : RecordedMs) (correlation : Float) (now : RecordedMs) (m : Matcher) (hop : Float) (w : Window) (e : evidence hop w ≡ now) where
   pub coasted : {r : MatchResult} → r ≡ resultOf (localSearch (m .reference) (m .fine) (query w) (offset ⊖ localMs) (offset ⊕ localMs)) → mayCoast now last ≡ true

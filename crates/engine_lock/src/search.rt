@@ -1,10 +1,17 @@
-// The searches of one window.
-ghost use Prim.Native.Nat.{_<_, _≤_};
+// The searches of one window. Its query is filled once, and only where a search is made.
+ghost use Prim.Native.Nat.{_+_, _*_, _<_, _≤_};
+ghost use lib.Ieee.{Float};
 ghost use lib.ListN.{length};
+ghost use mathlib.Core.Bool.{cond, false, true};
+ghost use mathlib.Core.List.{[]};
 ghost use mathlib.Core.Path.{_≡_};
-ghost use Rattle.engine_spec.specs.Windows.{matcherIn, referenceOf};
-ghost use Rattle.engine_spec.specs.Tracking.{tracked};
-ghost use Rattle.engine_spec.specs.Locking.{searched};
+ghost use Rattle.matcher_bands.specs.Centring.{wideHop};
+ghost use Rattle.matcher.specs.Search.{FilledQuery, wholeSearch, windowOf};
+ghost use Rattle.engine_spec.specs.declared.types.RecordedMs as recorded;
+ghost use Rattle.engine_spec.specs.declared.types.Hypothesis.the-variants as hypothesis;
+ghost use Rattle.engine_spec.specs.Windows.{matcherIn, query, referenceOf};
+ghost use Rattle.engine_spec.specs.Tracking.{mayCoast, tracked, unsupported};
+ghost use Rattle.engine_spec.specs.Locking.{locallySearched, searched, wholeSearched};
 ghost use Rattle.engine_spec.specs.Lent.{lent, window};
 ghost use Rattle.engine_spec.specs.Room.{Room};
 ghost use Rattle.engine_lock.specs.Views.{reachedIn, searchedIn, trackedIn};
@@ -18,28 +25,20 @@ use crate::track::evidence;
 use crate::track::followed;
 use crate::track::may_coast;
 use crate::track::unsupported;
+use engine_spec::thresholds::LOCAL_MS;
 use engine_spec::types::Hypothesis;
 use engine_spec::types::Lock;
 use engine_spec::types::RecordedMs;
 use engine_spec::types::Settings;
 use matcher::index::Reference;
-use matcher::search::local_search;
-use matcher::search::whole_search;
+use matcher::search::fill_query;
+use matcher::search::local_found;
+use matcher::search::whole_found;
 use matcher_picks::candidates::nothing_found;
 
-fn reference_of(settings: Settings) -> Reference
-    ensures { λ r. ⌜ r ≡ referenceOf settings ⌝ }
-{
-    Reference {
-        bands: settings.reference_bands as usize,
-        frames: settings.reference_frames as usize,
-        start_ms: settings.reference_start_ms.0,
-        hop_ms: settings.hop_ms,
-    }
-}
-
-// A local search for the track, if there is one that may still coast.
-fn tracked(
+// A local search for the track, if there is one that may still coast, then a whole search, if one is
+// due.
+pub fn searched(
     settings: Settings,
     fine: &[f32],
     coarse: &[f32],
@@ -49,53 +48,72 @@ fn tracked(
     times: &[f64],
     energies: &[f64],
     values: &[f32],
-    accepted: Hypothesis,
+    reached: Reached,
+    lock: Lock,
     work32: &mut [f32],
     work64: &mut [f64],
-) -> Tracked
+) -> Searched
     requires { ⌜ Room settings (lent (now fine) (now coarse) (now «fine_squares») (now «coarse_squares»)) (window bands (now times) (now energies) (now values)) (length (now work32)) (length (now work64)) ⌝ ∗ ⌜ 0 < settings .«reference_frames» ⌝ }
-    ensures { λ r. ⌜ trackedIn r ≡ tracked (matcherIn settings (lent (now (fine .entry)) (now (coarse .entry)) (now («fine_squares» .entry)) (now («coarse_squares» .entry)))) (settings .«hop_ms») (window bands (now (times .entry)) (now (energies .entry)) (now (values .entry))) accepted ⌝ }
+    ensures { λ r. ⌜ searchedIn r ≡ searched (matcherIn settings (lent (now (fine .entry)) (now (coarse .entry)) (now («fine_squares» .entry)) (now («coarse_squares» .entry)))) (settings .«hop_ms») (window bands (now (times .entry)) (now (energies .entry)) (now (values .entry))) (reachedIn reached) lock ⌝ }
     ensures { λ r. ⌜ r .found .count ≤ 8 ⌝ }
 {
     let n = times.len();
-    let now = evidence(settings.hop_ms, RecordedMs(times[n - 1]));
+    let accepted = lock.accepted;
+    if !is_coasting(
+        accepted,
+        evidence(settings.hop_ms, RecordedMs(times[n - 1])),
+    ) {
+        return without_track(
+            settings,
+            fine,
+            coarse,
+            fine_squares,
+            coarse_squares,
+            bands,
+            times,
+            energies,
+            values,
+            reached,
+            lock,
+            work32,
+            work64,
+        );
+    }
+    with_track(
+        settings,
+        fine,
+        coarse,
+        fine_squares,
+        coarse_squares,
+        bands,
+        times,
+        energies,
+        values,
+        reached,
+        lock,
+        work32,
+        work64,
+    )
+}
+
+// Whether there is a track that may still coast.
+fn is_coasting(accepted: Hypothesis, now: RecordedMs) -> bool
+    ensures { λ r. ⌜ (accepted ≡ hypothesis.Absent → r ≡ false) ⌝ }
+    ensures { λ r. ⌜ ((offset : Float) (first last : recorded.RecordedMs) (correlation : Float) → accepted ≡ hypothesis.Held offset first last correlation → r ≡ mayCoast now last) ⌝ }
+{
     match accepted {
-        Hypothesis::Absent => unsupported(Hypothesis::Absent, nothing_found()),
+        Hypothesis::Absent => false,
         Hypothesis::Held {
-            offset_ms,
-            first_evidence_ms,
+            offset_ms: _,
+            first_evidence_ms: _,
             last_evidence_ms,
-            correlation,
-        } => {
-            if !may_coast(now, last_evidence_ms) {
-                return unsupported(Hypothesis::Absent, nothing_found());
-            }
-            let found = local_search(
-                fine,
-                fine_squares,
-                reference_of(settings),
-                bands,
-                times,
-                values,
-                offset_ms - 100.0,
-                offset_ms + 100.0,
-                work32,
-                work64,
-            );
-            followed(
-                offset_ms,
-                first_evidence_ms,
-                last_evidence_ms,
-                correlation,
-                now,
-                found,
-            )
-        }
+            correlation: _,
+        } => may_coast(now, last_evidence_ms),
     }
 }
 
-// A local search for the track, then a whole search if one is due.
-pub fn searched(
+// With a track that may coast: the query serves the local search and the whole one.
+fn with_track(
     settings: Settings,
     fine: &[f32],
     coarse: &[f32],
@@ -117,9 +135,10 @@ pub fn searched(
     let n = times.len();
     let endpoint = RecordedMs(times[n - 1]);
     let accepted = lock.accepted;
-    let pending = lock.pending;
     let last = lock.last_global_search_ms;
+    let filled = fill_query(reference_of(settings), bands, times, values, work32, work64);
     let t = tracked(
+        filled,
         settings,
         fine,
         coarse,
@@ -133,10 +152,188 @@ pub fn searched(
         work32,
         work64,
     );
-    if !is_whole_due(t.supported, endpoint, last) {
+    let due = is_whole_due(t.supported, endpoint, last);
+    then_whole(
+        due,
+        filled,
+        settings,
+        fine,
+        coarse,
+        fine_squares,
+        coarse_squares,
+        bands,
+        times,
+        energies,
+        values,
+        reached,
+        lock,
+        t,
+        work32,
+        work64,
+    )
+}
+
+// Without one: the query is filled if a whole search is due.
+fn without_track(
+    settings: Settings,
+    fine: &[f32],
+    coarse: &[f32],
+    fine_squares: &[f64],
+    coarse_squares: &[f64],
+    bands: usize,
+    times: &[f64],
+    energies: &[f64],
+    values: &[f32],
+    reached: Reached,
+    lock: Lock,
+    work32: &mut [f32],
+    work64: &mut [f64],
+) -> Searched
+    requires { ⌜ Room settings (lent (now fine) (now coarse) (now «fine_squares») (now «coarse_squares»)) (window bands (now times) (now energies) (now values)) (length (now work32)) (length (now work64)) ⌝ ∗ ⌜ 0 < settings .«reference_frames» ⌝ }
+    requires { ⌜ unsupported hypothesis.Absent [] ≡ tracked (matcherIn settings (lent (now fine) (now coarse) (now «fine_squares») (now «coarse_squares»))) (settings .«hop_ms») (window bands (now times) (now energies) (now values)) (lock .accepted) ⌝ }
+    ensures { λ r. ⌜ searchedIn r ≡ searched (matcherIn settings (lent (now (fine .entry)) (now (coarse .entry)) (now («fine_squares» .entry)) (now («coarse_squares» .entry)))) (settings .«hop_ms») (window bands (now (times .entry)) (now (energies .entry)) (now (values .entry))) (reachedIn reached) lock ⌝ }
+    ensures { λ r. ⌜ r .found .count ≤ 8 ⌝ }
+{
+    let n = times.len();
+    let endpoint = RecordedMs(times[n - 1]);
+    let last = lock.last_global_search_ms;
+    let due = is_whole_due(false, endpoint, last);
+    let reference = reference_of(settings);
+    let filled = fill_if(due, reference, bands, times, values, work32, work64);
+    let t = unsupported(Hypothesis::Absent, nothing_found());
+    then_whole(
+        due,
+        filled,
+        settings,
+        fine,
+        coarse,
+        fine_squares,
+        coarse_squares,
+        bands,
+        times,
+        energies,
+        values,
+        reached,
+        lock,
+        t,
+        work32,
+        work64,
+    )
+}
+
+// Fills the query for a search that is due.
+fn fill_if(
+    due: bool,
+    reference: Reference,
+    bands: usize,
+    times: &[f64],
+    values: &[f32],
+    work32: &mut [f32],
+    work64: &mut [f64],
+) -> bool
+    requires { ⌜ wideHop (reference .«hop_ms») ≡ true ⌝ ∗ ⌜ 0 < reference .bands ⌝ }
+    requires { ⌜ length (now values) ≡ bands * length (now times) ⌝ ∗ ⌜ 2 * (bands * length (now times)) ≤ length (now work32) ⌝ ∗ ⌜ 3 * (bands * (length (now times) + 1)) + reference .frames ≤ length (now work64) ⌝ }
+    ensures { λ r. ⌜ (due ≡ true → FilledQuery reference (windowOf bands (now (times .entry)) (now (values .entry))) r (now (work32 .exit)) (now (work64 .exit))) ⌝ }
+{
+    if !due {
+        return false;
+    }
+    fill_query(reference, bands, times, values, work32, work64)
+}
+
+// The track after a local search by the window's query, which stays; a track that may not coast is
+// dropped.
+fn tracked(
+    filled: bool,
+    settings: Settings,
+    fine: &[f32],
+    coarse: &[f32],
+    fine_squares: &[f64],
+    coarse_squares: &[f64],
+    bands: usize,
+    times: &[f64],
+    energies: &[f64],
+    values: &[f32],
+    accepted: Hypothesis,
+    work32: &[f32],
+    work64: &mut [f64],
+) -> Tracked
+    requires { ⌜ Room settings (lent (now fine) (now coarse) (now «fine_squares») (now «coarse_squares»)) (window bands (now times) (now energies) (now values)) (length (now work32)) (length (now work64)) ⌝ ∗ ⌜ 0 < settings .«reference_frames» ⌝ }
+    requires { ⌜ FilledQuery (referenceOf settings) (query (window bands (now times) (now energies) (now values))) filled (now work32) (now work64) ⌝ }
+    ensures { λ r. ⌜ trackedIn r ≡ tracked (matcherIn settings (lent (now (fine .entry)) (now (coarse .entry)) (now («fine_squares» .entry)) (now («coarse_squares» .entry)))) (settings .«hop_ms») (window bands (now (times .entry)) (now (energies .entry)) (now (values .entry))) accepted ⌝ }
+    ensures { λ r. ⌜ r .found .count ≤ 8 ⌝ }
+    ensures { λ _. ⌜ FilledQuery (referenceOf settings) (query (window bands (now (times .entry)) (now (energies .entry)) (now (values .entry)))) filled (now (work32 .entry)) (now (work64 .exit)) ⌝ }
+{
+    let n = times.len();
+    let now = evidence(settings.hop_ms, RecordedMs(times[n - 1]));
+    match accepted {
+        Hypothesis::Absent => unsupported(Hypothesis::Absent, nothing_found()),
+        Hypothesis::Held {
+            offset_ms,
+            first_evidence_ms,
+            last_evidence_ms,
+            correlation,
+        } => {
+            if !may_coast(now, last_evidence_ms) {
+                return unsupported(Hypothesis::Absent, nothing_found());
+            }
+            let found = local_found(
+                filled,
+                fine,
+                fine_squares,
+                reference_of(settings),
+                bands,
+                times,
+                values,
+                offset_ms - LOCAL_MS,
+                offset_ms + LOCAL_MS,
+                work32,
+                work64,
+            );
+            followed(
+                offset_ms,
+                first_evidence_ms,
+                last_evidence_ms,
+                correlation,
+                now,
+                found,
+            )
+        }
+    }
+}
+
+// A whole search by the window's query, if one is due.
+fn then_whole(
+    due: bool,
+    filled: bool,
+    settings: Settings,
+    fine: &[f32],
+    coarse: &[f32],
+    fine_squares: &[f64],
+    coarse_squares: &[f64],
+    bands: usize,
+    times: &[f64],
+    energies: &[f64],
+    values: &[f32],
+    reached: Reached,
+    lock: Lock,
+    t: Tracked,
+    work32: &mut [f32],
+    work64: &mut [f64],
+) -> Searched
+    requires { ⌜ Room settings (lent (now fine) (now coarse) (now «fine_squares») (now «coarse_squares»)) (window bands (now times) (now energies) (now values)) (length (now work32)) (length (now work64)) ⌝ ∗ ⌜ 0 < settings .«reference_frames» ⌝ ∗ ⌜ t .found .count ≤ 8 ⌝ }
+    requires { ⌜ (due ≡ true → FilledQuery (referenceOf settings) (query (window bands (now times) (now energies) (now values))) filled (now work32) (now work64)) ⌝ }
+    ensures { λ r. ⌜ searchedIn r ≡ cond due (wholeSearched (settings .«hop_ms») (window bands (now (times .entry)) (now (energies .entry)) (now (values .entry))) (reachedIn reached) (lock .pending) (trackedIn t) (wholeSearch (matcherIn settings (lent (now (fine .entry)) (now (coarse .entry)) (now («fine_squares» .entry)) (now («coarse_squares» .entry)))) (query (window bands (now (times .entry)) (now (energies .entry)) (now (values .entry)))))) (locallySearched (reachedIn reached) lock (trackedIn t)) ⌝ }
+    ensures { λ r. ⌜ r .found .count ≤ 8 ⌝ }
+{
+    if !due {
         return locally_searched(reached, lock, t);
     }
-    let found = whole_search(
+    let n = times.len();
+    let endpoint = RecordedMs(times[n - 1]);
+    let pending = lock.pending;
+    let found = whole_found(
+        filled,
         fine,
         coarse,
         fine_squares,
@@ -149,4 +346,15 @@ pub fn searched(
         work64,
     );
     whole_searched(settings.hop_ms, endpoint, reached, pending, t, found)
+}
+
+fn reference_of(settings: Settings) -> Reference
+    ensures { λ r. ⌜ r ≡ referenceOf settings ⌝ }
+{
+    Reference {
+        bands: settings.reference_bands as usize,
+        frames: settings.reference_frames as usize,
+        start_ms: settings.reference_start_ms.0,
+        hop_ms: settings.hop_ms,
+    }
 }

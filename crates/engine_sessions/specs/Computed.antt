@@ -14,7 +14,7 @@ use Rattle.matcher_scores.specs.Scores.{lane, lanes, onward, dot, varianceFloor
 use Rattle.matcher_picks.specs.Peaks.{maximumTo, nearTo, freeTo, peaksFrom}
 use Rattle.matcher_picks.specs.Candidates.{insert, sortInto, crowded, independentFrom, marginOf}
 use Rattle.matcher.specs.Index.{acceptsReference, matcherOf}
-use Rattle.matcher.specs.Search.{searchable, queryOf, vertex, fraction, candidateOf, candidateIn, candidatesAt, localFound, coarseScores, separation, wholeSearch, localSearch}
+use Rattle.matcher.specs.Search.{searchable, queryOf, vertex, fraction, candidateOf, candidateIn, candidatesAt, localFound, coarseScores, separation, wholeFound, wholeSearch, localSearch}
 use Rattle.engine_spec.specs.Windows.{evidence, jumpsFrom, rereadsFrom}
 use Rattle.engine_spec.specs.Refusals.{numberOf, every, validConfiguration, indexFits, openingRefusal, validSettings, validHypothesis, validLock, validMilestone, validMilestones, validEndpoint, validEstimate, validSnapshot, validLast, validEngine, validWindow, workFits, Submission, handedRefusal, submissionRefusal}
 use Rattle.engine_spec.specs.Opening.{blankSnapshot, freshEngine, noEngine, opening, fills, openedIndex}
@@ -27,5 +27,5 @@ use Rattle.engine_spec.specs.declared.types.Engine.{Engine}
 use Rattle.engine_spec.specs.declared.types.Submitted.{Submitted}
 
 unfoldable pub submitNow : Engine → Submission → Submitted
-unfolding submit answeredFrom stamp reread decisionOn computedFrom verdictOf decide freshEvidence candidatesShown isPublishing magnitudeOf publish least passing firstEvidence holds heldOrDropped confirms keptOrReplaced passed wholeSearched searched supports gain movedOffset followed tracked tally activeFraction meanPower averageEnergy readiness isNone blankSnapshot freshEngine noEngine opening fills openedIndex numberOf every validConfiguration indexFits openingRefusal validSettings validHypothesis validLock validMilestone validMilestones validEndpoint validEstimate validSnapshot validLast validEngine validWindow workFits handedRefusal submissionRefusal evidence jumpsFrom rereadsFrom searchable queryOf vertex fraction candidateOf candidateIn candidatesAt localFound coarseScores separation wholeSearch localSearch acceptsReference matcherOf insert sortInto crowded independentFrom marginOf maximumTo nearTo freeTo peaksFrom lane lanes onward dot varianceFloor bandTerm termAt correlationAt correlations partTerm partAt scorePart totals average contextFrames radius logs meanAround centredAt centred onTime regular accepts validValues tabulate rows allTo sumTo magnitude logSeries logOf log1pOf log10Of expSeries twoTo expOf tenTo rootOf nearestF32 wholeNearest wholeBelow wholeAbove neg add sub mul div lt le eq isNan ofInt toUnsigned ofBits toBits
+unfolding submit answeredFrom stamp reread decisionOn computedFrom verdictOf decide freshEvidence candidatesShown isPublishing magnitudeOf publish least passing firstEvidence holds heldOrDropped confirms keptOrReplaced passed wholeSearched searched supports gain movedOffset followed tracked tally activeFraction meanPower averageEnergy readiness isNone blankSnapshot freshEngine noEngine opening fills openedIndex numberOf every validConfiguration indexFits openingRefusal validSettings validHypothesis validLock validMilestone validMilestones validEndpoint validEstimate validSnapshot validLast validEngine validWindow workFits handedRefusal submissionRefusal evidence jumpsFrom rereadsFrom searchable queryOf vertex fraction candidateOf candidateIn candidatesAt localFound coarseScores separation wholeFound wholeSearch localSearch acceptsReference matcherOf insert sortInto crowded independentFrom marginOf maximumTo nearTo freeTo peaksFrom lane lanes onward dot varianceFloor bandTerm termAt correlationAt correlations partTerm partAt scorePart totals average contextFrames radius logs meanAround centredAt centred onTime regular accepts validValues tabulate rows allTo sumTo magnitude logSeries logOf log1pOf log10Of expSeries twoTo expOf tenTo rootOf nearestF32 wholeNearest wholeBelow wholeAbove neg add sub mul div lt le eq isNan ofInt toUnsigned ofBits toBits
 submitNow e i = submit e i

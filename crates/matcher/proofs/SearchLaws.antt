@@ -2,6 +2,7 @@
 use mathlib.Core.Path.{_≡_, refl, sym, ap, subst, _∙_}
 use Prim.Native.Nat.{ℕ, zero, suc, _+_, _-_, _*_, _/_, _^_, _<_, _≤_, min}
 use native.Mathlib.Nat.{mul-add, mul-le-mul-left, le-refl}
+use native.Mathlib.Numerals.{add-one}
 use native.Mathlib.Omega.{arith}
 use mathlib.Core.Bool.{Bool, true, false, cond, _&&_}
 use mathlib.Core.List.{List, [], _∷_, _++_, append-assoc}
@@ -20,11 +21,11 @@ use Rattle.numbers.specs.Arithmetic.{atMost, countOf, real}
 use Rattle.number_laws.proofs.CountLaws.{count-monotone, count-at-most}
 use Rattle.number_laws.proofs.Mantissa.{whole-finite}
 use Rattle.number_laws.proofs.Order.{lt→le, le-self}
-use Rattle.matcher_picks.specs.Candidates.{insert, sortInto, sorted, listed, resultOf}
-use Rattle.matcher_bands.specs.Energy.{Bands, averages, allAverages}
-use Rattle.matcher.specs.Index.{acceptsReference}
+use Rattle.matcher_picks.specs.Candidates.{crowded, independent, independentFrom, insert, sortInto, sorted, listed, resultOf}
+use Rattle.matcher_bands.specs.Energy.{Bands, allEnergies, averages, allAverages, bandsOf}
+use Rattle.matcher.specs.Index.{Matcher, acceptsReference, lentBands}
 use Rattle.matcher_bands.specs.Rows.{row, rows}
-use Rattle.matcher.specs.Search.{Window, searchable, queryValues, candidateIn, candidatesAt, localLow, localHigh, localFound}
+use Rattle.matcher.specs.Search.{FilledQuery, QueryIn, Window, candidateIn, candidatesAt, localFound, localHigh, localLow, localSearch, queryOf, queryStart, queryValues, searchable, wholeFound, wholeSearch}
 use Rattle.matcher_bands.specs.Timeline.{accepts, regular, validValues}
 use Rattle.matcher_picks.specs.declared.candidates.Candidate.{Candidate}
 use Rattle.matcher_picks.specs.declared.candidates.MatchResult.{MatchResult}
@@ -257,3 +258,77 @@ module _ (x : Reference) (fine query : Bands) (start lower upper : Float) {f g :
       → f && (g && (le lower upper && le low high)) ≡ false → [] ≡ localFound x fine query start lower upper
   unfolding localFound
   local-none a b p q h = rw (sym (test-is a b p q) ∙ h)
+
+-- ---- a query at the fronts of two buffers
+-- buffers with the same fronts hold the same query
+pub query-stays : (bands n : ℕ) (v w e f : List Float) → take (bands * n) v ≡ take (bands * n) w → take (bands * (n + 1)) e ≡ take (bands * (n + 1)) f → lentBands bands n v e ≡ lentBands bands n w f
+query-stays bands n v w e f p q =
+    let s : take (bands * suc n) e ≡ take (bands * suc n) f = subst (λ (k : ℕ). take (bands * k) e ≡ take (bands * k) f) (add-one n) q in
+    (λ i. bandsOf n (p i) (s i))
+
+-- fronts that were filled with the window's centred rows and their energies hold its query
+pub query-filled : (x : Reference) (w : Window) {r : ℕ} (work32 work64 : List Float) → r ≡ radius (x .«hop_ms») → w .bands ≡ x .bands
+    → take (w .bands * (length (w .times) - 2 * r)) work32 ≡ queryValues r (w .bands) (length (w .times)) (w .values)
+    → take (w .bands * (length (w .times) - 2 * r + 1)) work64 ≡ allEnergies (w .bands) (length (w .times) - 2 * r) (queryValues r (w .bands) (length (w .times)) (w .values))
+    → QueryIn x w work32 work64
+unfolding queryOf
+query-filled x w {r} work32 work64 e same p q =
+    let n = length (w .times) - 2 * r in
+    let s = sym (ap (λ (k : ℕ). take (w .bands * k) work64) (add-one n)) ∙ q in
+    let t : lentBands (w .bands) n work32 work64 ≡ queryOf r w = (λ i. bandsOf n (p i) (s i)) in
+    subst (λ (b : ℕ). lentBands b (length (w .times) - 2 * radius (x .«hop_ms»)) work32 work64 ≡ queryOf (radius (x .«hop_ms»)) w) same
+    (subst (λ (k : ℕ). lentBands (w .bands) (length (w .times) - 2 * k) work32 work64 ≡ queryOf k w) e t)
+
+-- what is found by the filled query of a searchable window is what a search of the window finds
+pub whole-answer : (m : Matcher) (w : Window) {r : ℕ} {found : MatchResult} (work32 work64 : List Float) → searchable (m .reference) w ≡ true → r ≡ radius (m .reference .«hop_ms»)
+    → QueryIn (m .reference) w work32 work64
+    → found ≡ resultOf (wholeFound m (lentBands (m .reference .bands) (length (w .times) - 2 * r) work32 work64) (queryStart r w))
+    → found ≡ resultOf (wholeSearch m w)
+unfolding wholeSearch
+whole-answer m w {r} {found} work32 work64 test e q h =
+    let at = subst (λ (k : ℕ). found ≡ resultOf (wholeFound m (lentBands (m .reference .bands) (length (w .times) - 2 * k) work32 work64) (queryStart k w))) e h in
+    rw test (at ∙ ap (λ (b : Bands). resultOf (wholeFound m b (queryStart (radius (m .reference .«hop_ms»)) w))) q)
+
+pub local-answer : (x : Reference) (fine : Bands) (w : Window) (lower upper : Float) {r : ℕ} {found : MatchResult} (work32 work64 : List Float) → searchable x w ≡ true → r ≡ radius (x .«hop_ms»)
+    → QueryIn x w work32 work64
+    → found ≡ resultOf (localFound x fine (lentBands (x .bands) (length (w .times) - 2 * r) work32 work64) (queryStart r w) lower upper)
+    → found ≡ resultOf (localSearch x fine w lower upper)
+unfolding localSearch
+local-answer x fine w lower upper {r} {found} work32 work64 test e q h =
+    let at = subst (λ (k : ℕ). found ≡ resultOf (localFound x fine (lentBands (x .bands) (length (w .times) - 2 * k) work32 work64) (queryStart k w) lower upper)) e h in
+    rw test (at ∙ ap (λ (b : Bands). resultOf (localFound x fine b (queryStart (radius (x .«hop_ms»)) w) lower upper)) q)
+
+-- a search that leaves the fronts as they were leaves the query
+pub still-filled : (x : Reference) (w : Window) {filled : Bool} {r : ℕ} (work32 work64 after : List Float) → r ≡ radius (x .«hop_ms»)
+    → lentBands (x .bands) (length (w .times) - 2 * r) work32 after ≡ lentBands (x .bands) (length (w .times) - 2 * r) work32 work64
+    → FilledQuery x w filled work32 work64 → FilledQuery x w filled work32 after
+still-filled x w work32 work64 after e s f =
+    let stays = subst (λ (k : ℕ). lentBands (x .bands) (length (w .times) - 2 * k) work32 after ≡ lentBands (x .bands) (length (w .times) - 2 * k) work32 work64) e s in
+    record { told = f .told; query = λ h. stays ∙ f .query h }
+
+-- ---- how many are found
+few-of : (t : Bool) (a b : List Candidate) (n : ℕ) → length a ≤ n → length b ≤ n → length (cond t a b) ≤ n
+few-of true a b n p q = p
+few-of false a b n p q = q
+
+-- leaving out those that are too near leaves no more
+fewer : (done l : List Candidate) → length (independentFrom done l) ≤ length done + length l
+unfolding independentFrom
+fewer done [] = omega arith
+fewer done (c ∷ l) =
+    few-of (crowded done c) (independentFrom done l) (independentFrom (done ++ (c ∷ [])) l) (length done + length (c ∷ l)) (omega (arith, fewer done l))
+    (omega (arith, fewer (done ++ (c ∷ [])) l, length-append done (c ∷ [])))
+
+pub independent-few : (found : MatchResult) {r : MatchResult} → r ≡ resultOf (independent (listed found)) → found .count ≤ 8 → r .count ≤ 8
+independent-few found e h = rw e (omega (arith, fewer [] (listed found), length-take (found .count) (found .candidates)))
+
+pub local-few : (x : Reference) (fine : Bands) (w : Window) (lower upper : Float) → length (localSearch x fine w lower upper) ≤ 8
+unfolding localSearch localFound
+local-few x fine w lower upper =
+    let r = radius (x .«hop_ms») in
+    let query = queryOf r w in
+    let start = queryStart r w in
+    let low = localLow x fine query start lower in
+    let high = localHigh x fine query start upper in
+    few-of (searchable x w) (localFound x fine query start lower upper) [] 8
+    (few-of (finite lower && (finite upper && (le lower upper && le low high))) (candidateIn x fine query start (countOf low) (countOf high) ∷ []) [] 8 (omega arith) (omega arith)) (omega arith)

@@ -1,7 +1,8 @@
 -- Whole and local search (document 01, Matcher; matcher.rs, `match_query`). Definitions only.
 use Prim.Native.Nat.{ℕ, _+_, _-_, _*_, _/_, min, max}
-use mathlib.Core.Bool.{Bool, cond, _&&_}
+use mathlib.Core.Bool.{Bool, true, cond, _&&_}
 use mathlib.Core.List.{List, [], _∷_}
+use mathlib.Core.Path.{_≡_}
 use lib.Dec.{leb, ltb}
 use lib.ListN.{length, getD}
 use lib.Ieee.{Float, nan, binary64, le, lt, ofBits}
@@ -16,7 +17,7 @@ use Rattle.matcher_bands.specs.Energy.{Bands, withEnergies, reduced, reduction,
 use Rattle.matcher_scores.specs.Scores.{correlations, scorePart}
 use Rattle.matcher_picks.specs.Peaks.{firstMaximum, peaks}
 use Rattle.matcher_picks.specs.Candidates.{sorted, independent, apartMs}
-use Rattle.matcher.specs.Index.{Matcher}
+use Rattle.matcher.specs.Index.{Matcher, lentBands}
 use Rattle.matcher.specs.declared.index.Reference.{Reference}
 use Rattle.matcher_picks.specs.declared.candidates.Candidate.{Candidate}
 
@@ -150,17 +151,31 @@ coarseScores bands coarse query =
 unfoldable pub separation : Float → ℕ
 separation hop = max 1 (countOf (apartMs ⊘ (hop ⊗ real reduction)))
 
+-- The candidates of the whole reference for a query that starts at this time.
+unfoldable pub wholeFound : Matcher → Bands → Float → List Candidate
+wholeFound m query start =
+    let x = m .reference in
+    independent (sorted (candidatesAt x (m .fine) query start (peaks (coarseScores (x .bands) (m .coarse) query) (separation (x .«hop_ms»)))))
+
 -- ---- the searches
 unfoldable pub wholeSearch : Matcher → Window → List Candidate
 wholeSearch m w =
-    let x = m .reference in
-    let r = radius (x .«hop_ms») in
-    let query = queryOf r w in
-    cond (searchable x w)
-    (independent (sorted (candidatesAt x (m .fine) query (queryStart r w) (peaks (coarseScores (x .bands) (m .coarse) query) (separation (x .«hop_ms»))))))
-    []
+    let r = radius (m .reference .«hop_ms») in
+    cond (searchable (m .reference) w) (wholeFound m (queryOf r w) (queryStart r w)) []
 
 unfoldable pub localSearch : Reference → Bands → Window → Float → Float → List Candidate
 localSearch x fine w lower upper =
     let r = radius (x .«hop_ms») in
     cond (searchable x w) (localFound x fine (queryOf r w) (queryStart r w) lower upper) []
+
+-- ---- a query that is filled once for several searches
+-- The window's query stands at the fronts of two working buffers: its values in one, its energies in the other.
+abbrev pub QueryIn : Reference → Window → List Float → List Float → Type 0
+QueryIn x w work32 work64 =
+    let r = radius (x .«hop_ms») in
+    lentBands (x .bands) (length (w .times) - 2 * r) work32 work64 ≡ queryOf r w
+
+-- What filling answers and leaves: whether the window is searchable, and if it is, its query.
+pub record FilledQuery (x : Reference) (w : Window) (filled : Bool) (work32 work64 : List Float) : Type 0 where
+  pub told : filled ≡ searchable x w
+  pub query : filled ≡ true → QueryIn x w work32 work64

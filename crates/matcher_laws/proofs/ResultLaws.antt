@@ -24,7 +24,7 @@ use Rattle.matcher_bands.specs.Centring.{radius}
 use Rattle.matcher_bands.specs.Energy.{Bands}
 use Rattle.matcher_picks.specs.Peaks.{most, peaks}
 use Rattle.matcher.specs.Index.{Matcher}
-use Rattle.matcher.specs.Search.{Window, searchable, queryOf, queryStart, candidateIn, rangeLow, rangeHigh, candidatesAt, place, localLow, localHigh, localFound, coarseScores, separation, wholeSearch, localSearch}
+use Rattle.matcher.specs.Search.{Window, searchable, queryOf, queryStart, candidateIn, rangeLow, rangeHigh, candidatesAt, place, localLow, localHigh, localFound, coarseScores, separation, wholeFound, wholeSearch, localSearch}
 use Rattle.matcher.specs.declared.index.Reference.{Reference}
 use Rattle.matcher_picks.specs.declared.candidates.Candidate.{Candidate}
 use Rattle.matcher_laws.specs.ResultLaws.{All, Pairs, Scored, NoHigher, Far, From, KeptFrom, SortedByScore, BestFirst, Apart750, AtMostEight, WholeApart, AtMostOne, Searchable, SearchableGives, OfPlaces, WholeFinds, LocalFinds, WholeSorted, MarginLaws}
@@ -302,7 +302,7 @@ found m w =
 
 -- what holds of no candidates and of those found holds of the result
 whole : (G : List Candidate → Type 0) (m : Matcher) (w : Window) → G [] → (Searchable (m .reference) w → G (independent (sorted (found m w)))) → G (wholeSearch m w)
-unfolding wholeSearch
+unfolding wholeSearch wholeFound
 whole G m w g h = cond-elim G (searchable (m .reference) w) (independent (sorted (found m w))) [] (λ u. h (searchable-gives (m .reference) w u)) (λ u. g)
 
 found-every : (P : Candidate → Type 0) (m : Matcher) (w : Window) → OfPlaces (m .reference) (m .fine) w P → Searchable (m .reference) w → Every P (found m w)

@@ -1,107 +1,84 @@
 -- `matcher::search::whole_candidates` meets its contract. Assumes nothing.
 use borrow.Author.Needs.{needs}
 use mathlib.Core.Path.{_≡_, sym, ap, _∙_}
-use Prim.Native.Nat.{ℕ, _+_, _-_, _*_, _≤_}
+use Prim.Native.Nat.{ℕ, _*_, _/_, _≤_}
 use native.Mathlib.Numerals.{add-one}
 use native.Mathlib.Omega.{arith}
 use mathlib.Core.List.{List}
-use lib.Ieee.{Float, nan}
-use lib.ListN.{length, getD, take, length-take}
+use lib.Ieee.{Float}
+use lib.ListN.{length, take, length-take}
 use lib.Seq.{length-take-le}
 use Rattle.matcher_picks.specs.Candidates.{independent, resultOf, sorted}
-use Rattle.matcher_bands.specs.Energy.{bandsOf}
-use Rattle.matcher.specs.Search.{candidatesAt, coarseScores, queryOf}
+use Rattle.matcher_picks.specs.Peaks.{peaks}
+use Rattle.matcher_bands.specs.Energy.{Bands, bandsOf}
+use Rattle.matcher.specs.Index.{lentBands}
+use Rattle.matcher.specs.Search.{candidatesAt, coarseScores, separation, wholeFound}
 use Rattle.matcher_picks.specs.declared.candidates.Candidate.{Candidate}
-use Rattle.matcher.proofs.SearchLaws.{query-room}
+use Rattle.matcher.proofs.SearchLaws.{independent-few}
 use Rattle.matcher.proofs.search.whole_candidates.Statement.{statement}
 use Rattle.matcher.proofs.search.whole_candidates.Tie as tie
 
-mul-query-end : tie.Need-mul-query-end
-mul-query-end c =
-    let start = c .before .before .before .before .before .before .before .before .before .before in
-    let a = start .args in
-    let p = start .pre in
-    let room = query-room {bands = a .reference .bands} (length (a .times .now)) (length (a .times .now) - 2 * a .radius) (omega arith) (omega arith) in
-    omega arith
-
 slice-aggregate-candidates-around : tie.Need-slice-aggregate-candidates-around
-slice-aggregate-candidates-around c =
-    let p = c .before .before .before .before .before .before .before .before .before .before .before .before .before .before .before .before .before .before .pre in
-    simp length-take (omega arith)
+slice-aggregate-candidates-around c = let p = c .before .before .before .before .before .before .before .before .before .before .before .before .before .before .before .before .pre in simp length-take (omega arith)
 
 slice-aggregate-candidates-around-2 : tie.Need-slice-aggregate-candidates-around-2
-slice-aggregate-candidates-around-2 c =
-    let p = c .before .before .before .before .before .before .before .before .before .before .before .before .before .before .before .before .before .before .before .pre in
-    simp length-take (omega arith)
+slice-aggregate-candidates-around-2 c = let p = c .before .before .before .before .before .before .before .before .before .before .before .before .before .before .before .before .before .pre in simp length-take (omega arith)
 
 slice-reshare-prefix-candidates-around : tie.Need-slice-reshare-prefix-candidates-around
 slice-reshare-prefix-candidates-around c =
-    let start = c .before .before .before .before .before .before .before .before .before .before .before .before .before .before .before .before .before .before .before in
+    let start = c .before .before .before .before .before .before .before .before .before .before .before .before .before .before .before .before .before in
     let a = start .args in
     let p = start .pre in
-    let bands : ℕ = a .reference .bands in
-    let frames : ℕ = length (a .times .now) in
-    let n : ℕ = frames - 2 * a .radius in
-    let room = query-room {bands = bands} frames n (omega arith) (omega arith) in
-    let w : List Float = c .before .before .before .before .before .before .window-peaks .last .1 .1 .1 .1 .1 .1 .0 in
-    let kept : length w ≡ length (a .work32 .now) = c .before .before .before .before .before .before .window-peaks .kept .1 .1 .1 .1 .1 .1 .0 in
-    let twice : 2 * (bands * frames) ≤ length (a .work32 .now) = p .1 .1 .1 .1 .1 .1 .1 .1 .1 .1 .1 .0 in
-    let fits : bands * n ≤ length w = omega arith in
-    fits
+    let kept : length (c .before .before .before .before .before .before .query-peaks .last .1 .1 .1 .1 .0) ≡ length (a .work32 .now) = c .before .before .before .before .before .before .query-peaks .kept .1 .1 .1 .1 .0 in
+    omega arith
 
 slice-aggregate-candidates-around-3 : tie.Need-slice-aggregate-candidates-around-3
 slice-aggregate-candidates-around-3 c =
-    let start = c .before .before .before .before .before .before .before .before .before .before .before .before .before .before .before .before .before .before .before .before in
+    let start = c .before .before .before .before .before .before .before .before .before .before .before .before .before .before .before .before .before .before in
     let a = start .args in
     let p = start .pre in
-    let bands : ℕ = a .reference .bands in
-    let frames : ℕ = length (a .times .now) in
-    let n : ℕ = frames - 2 * a .radius in
-    let room = query-room {bands = bands} frames n (omega arith) (omega arith) in
-    let w : List Float = c .before .before .before .before .before .before .before .window-peaks .last .1 .1 .1 .1 .1 .1 .0 in
-    let kept : length w ≡ length (a .work32 .now) = c .before .before .before .before .before .before .before .window-peaks .kept .1 .1 .1 .1 .1 .1 .0 in
-    let twice : 2 * (bands * frames) ≤ length (a .work32 .now) = p .1 .1 .1 .1 .1 .1 .1 .1 .1 .1 .1 .0 in
-    let fits : bands * n ≤ length w = omega arith in
-    sym (length-take-le (bands * n) w fits)
-
-shared-slice-read-candidates-around : tie.Need-shared-slice-read-candidates-around
-shared-slice-read-candidates-around c =
-    let p = c .before .before .before .before .before .before .before .before .before .before .before .before .before .before .before .before .before .before .before .before .before .pre in
-    omega arith
+    let w : List Float = c .before .before .before .before .before .before .before .query-peaks .last .1 .1 .1 .1 .0 in
+    let kept : length w ≡ length (a .work32 .now) = c .before .before .before .before .before .before .before .query-peaks .kept .1 .1 .1 .1 .0 in
+    let fits : a .reference .bands * a .n ≤ length w = omega arith in
+    sym (length-take-le (a .reference .bands * a .n) w fits)
 
 candidates-around-requires : tie.Need-candidates-around-requires
 candidates-around-requires c κs =
-    let start = c .before .before .before .before .before .before .before .before .before .before .before .before .before .before .before .before .before .before .before .before .before .before in
+    let start = c .before .before .before .before .before .before .before .before .before .before .before .before .before .before .before .before .before .before .before in
     let a = start .args in
     let p = start .pre in
-    let bands : ℕ = a .reference .bands in
-    let frames : ℕ = length (a .times .now) in
-    let n : ℕ = frames - 2 * a .radius in
-    let room = query-room {bands = bands} frames n (omega arith) (omega arith) in
-    let w : List Float = c .before .before .before .before .before .before .before .before .before .window-peaks .last .1 .1 .1 .1 .1 .1 .0 in
-    let kept : length w ≡ length (a .work32 .now) = c .before .before .before .before .before .before .before .before .before .window-peaks .kept .1 .1 .1 .1 .1 .1 .0 in
-    let twice : 2 * (bands * frames) ≤ length (a .work32 .now) = p .1 .1 .1 .1 .1 .1 .1 .1 .1 .1 .1 .0 in
-    let fits : bands * n ≤ length w = omega arith in
-    let query : bands * n ≤ length (take (bands * n) w) = omega (arith, length-take-le (bands * n) w fits) in
-    let energies : bands * (n + 1) ≤ 3 * (bands * (frames + 1)) = omega arith in
-    let found = c .before .before .before .before .before .before .before .before .before .window-peaks .ensures in (
+    let end : ℕ = a .reference .bands * a .n in
+    let w : List Float = c .before .before .before .before .before .before .before .before .query-peaks .last .1 .1 .1 .1 .0 in
+    let kept : length w ≡ length (a .work32 .now) = c .before .before .before .before .before .before .before .before .query-peaks .kept .1 .1 .1 .1 .0 in
+    let fits : end ≤ length w = omega arith in
+    let query : end ≤ length (take end w) = omega (arith, length-take-le end w fits) in
+    let found = c .before .before .before .before .before .before .before .before .query-peaks .ensures in (
       omega arith,
-      (omega arith, (omega arith, (found .0, (simp length-take (omega arith), (simp length-take (omega arith), (query, (energies, (omega arith, (omega arith, found .1 .1 .0))))))))),
+      (omega arith, (omega arith, (found .0, (simp length-take (omega arith), (simp length-take (omega arith), (query, (omega arith, (omega arith, (omega arith, found .1 .1 .0))))))))),
     )
 
 returns : tie.Need-returns
-unfolding coarseScores queryOf
+unfolding wholeFound
 returns c =
     let found = c .before .before .before in
-    let picked = found .before .before .before .before .before .before .before .before .before .before in
-    let a = picked .before .before .before .before .before .before .before .before .before .before .before .before .before .args in
-    let bands : ℕ = a .reference .bands in
-    let n : ℕ = length (a .times .now) - 2 * a .radius in
-    let frames : ℕ = a .reference .frames in
-    let known = picked .window-peaks .ensures .1 in
-    c .keep-independent .ensures
-    ∙ ap (λ (l : List Candidate). resultOf (independent l)) (found .candidates-around .ensures .1
-    ∙ (λ i. sorted (candidatesAt (a .reference) (bandsOf frames (take (bands * frames) (a .fine .now)) (take (bands * add-one frames i) (a .fine-squares .now))) (bandsOf n (known .1 .1 .0 i) (known .1 .1 .1 i)) (getD (a .times .now) (a .radius) nan) (known .0 i))))
+    let picked = c .before .before .before .before .before .before .before .before .before .before .before .before in
+    let a = c .before .before .before .before .before .before .before .before .before .before .before .before .before .before .before .before .before .before .before .before .before .before .before .args in
+    let x = a .reference in
+    let bands : ℕ = x .bands in
+    let frames : ℕ = x .frames in
+    let fine = lentBands bands frames (a .fine .now) (a .fine-squares .now) in
+    let known = picked .query-peaks .ensures .1 in
+    let v : List Float = picked .query-peaks .last .1 .1 .1 .1 .0 in
+    let e : List Float = picked .query-peaks .last .1 .1 .1 .1 .1 .0 in
+    let coarse = lentBands bands (frames / 4) (a .coarse .now) (a .coarse-squares .now) in
+    let query = lentBands bands (a .n) (a .work32 .now) (a .work64 .now) in (
+      c .keep-independent .ensures
+          ∙ ap (λ (l : List Candidate). resultOf (independent l))
+          (found .candidates-around .ensures .1
+          ∙ (λ i. sorted (candidatesAt x (bandsOf frames (take (bands * frames) (a .fine .now)) (take (bands * add-one frames i) (a .fine-squares .now))) (bandsOf (a .n) (take (bands * a .n) v) (take (bands * add-one (a .n) i) e)) (a .start) (known .0 i)))
+          ∙ ap (λ (q : Bands). sorted (candidatesAt x fine q (a .start) (peaks (coarseScores bands coarse query) (separation (x .«hop_ms»))))) (known .1 .1)),
+      independent-few (found .candidates-around .result) (c .keep-independent .ensures) (found .candidates-around .ensures .0),
+    )
 
 pub whole-candidates-spec : {M : Type 1} → statement M
 whole-candidates-spec =
@@ -112,17 +89,12 @@ whole-candidates-spec =
     (λ c. search needs)
     (λ c. search needs)
     (λ c. search needs)
-    mul-query-end
-    (λ c. search needs)
-    (λ c. search needs)
     (λ c. search needs)
     (λ c κs. search needs)
     slice-aggregate-candidates-around
     slice-aggregate-candidates-around-2
     slice-reshare-prefix-candidates-around
     slice-aggregate-candidates-around-3
-    (λ c. search needs)
-    shared-slice-read-candidates-around
     candidates-around-requires
     (λ c κs. search needs)
     (λ c. search needs)

@@ -1,48 +1,24 @@
 -- `matcher::search::whole_search` meets its contract. Assumes nothing.
 use borrow.Author.Needs.{needs}
-use borrow.Author.Tests.{not-true, not-false}
-use mathlib.Core.Path.{sym, _∙_}
 use native.Mathlib.Omega.{arith}
-use Rattle.matcher.specs.Search.{wholeSearch, windowOf}
-use Rattle.matcher_bands.proofs.RadiusLaw.{radius-small}
-use Rattle.matcher.proofs.SearchLaws.{searchable-room}
 use Rattle.matcher.proofs.search.whole_search.Statement.{statement}
 use Rattle.matcher.proofs.search.whole_search.Tie as tie
 
+whole-found-requires : tie.Need-whole-found-requires
+whole-found-requires c κs =
+    let p = c .before .before .before .before .before .before .before .before .before .before .before .before .before .before .before .before .before .pre in
+    let filled = c .before .before .before .before .before .before .fill-query in
+    (p .0, (p .1 .0, (p .1 .1 .0, (p .1 .1 .1 .0, (omega arith, (omega arith, (omega arith, (omega arith, (omega arith, (omega arith, filled .ensures))))))))))
+
 returns : tie.Need-returns
-unfolding wholeSearch
-returns c = rw (sym (c .before .before .is-searchable .ensures) ∙ not-true _ (c .before .if1 .taken)) (c .nothing-found .ensures)
-
-whole-candidates-requires : tie.Need-whole-candidates-requires
-whole-candidates-requires c κs =
-    let at = c .before .before .before in
-    let start = at .before .before .before .before .before .before .before .before .before .before in
-    let a = start .args in
-    let p = start .pre in
-    let room = searchable-room (a .reference) (windowOf (a .bands) (a .times .now) (a .values .now)) (sym (at .before .is-searchable .ensures) ∙ not-false _ (at .if1 .left)) in
-    let small = radius-small (a .reference .«hop_ms») (p .0) in
-    let r = c .before .before .radius .ensures in
-    (omega arith, (omega arith, (omega arith, (omega arith, (omega arith, (omega arith, rw (room .0) at (p .1 .1 .1 .1)))))))
-
-returns-2 : tie.Need-returns-2
-unfolding wholeSearch
-returns-2 c =
-    let done = c .before .before .before .before in
-    let at = done .before .before .before .before in
-    let a = at .before .before .before .before .before .before .before .before .before .before .args in
-    let test = sym (at .before .is-searchable .ensures) ∙ not-false _ (at .if1 .left) in
-    let same = searchable-room (a .reference) (windowOf (a .bands) (a .times .now) (a .values .now)) test .0 in
-    rw (test, same, ← (done .before .before .before .radius .ensures)) (done .whole-candidates .ensures)
+returns c = c .before .before .before .before .whole-found .ensures .0
 
 pub whole-search-spec : {M : Type 1} → statement M
 whole-search-spec =
     tie.close
     (tie.spec
     (λ c κs. search needs)
-    (λ c κs. search needs)
-    returns
-    (λ c κs. search needs)
-    whole-candidates-requires
+    whole-found-requires
     (λ c. search needs)
     (λ c. search needs)
-    returns-2)
+    returns)

@@ -1,0 +1,62 @@
+-- `engine_lock::search::then_whole` meets its contract. Assumes nothing.
+use borrow.Author.Needs.{needs}
+use borrow.Author.Tests.{not-true, not-false}
+use mathlib.Core.Path.{sym, _∙_}
+use Rattle.engine_spec.specs.Windows.{matcherIn}
+use Rattle.engine_spec.specs.Lent.{lent, window}
+use Rattle.engine_lock.specs.Views.{reachedIn, trackedIn}
+use Rattle.engine_lock.proofs.SearchLaws.{some-bands, filled-of, whole-made}
+use Rattle.engine_lock.proofs.search.then_whole.Statement.{statement}
+use Rattle.engine_lock.proofs.search.then_whole.Tie as tie
+
+returns : tie.Need-returns
+returns c =
+    let done = c .locally-searched .ensures in
+    (rw (not-true (c .before .before .before .before .before .before .before .before .before .before .before .args .due) (c .before .if1 .taken)) (done .0), rw (done .1) (c .before .before .before .before .before .before .before .before .before .before .before .pre .1 .1 .0))
+
+whole-found-requires : tie.Need-whole-found-requires
+whole-found-requires c κs =
+    let p = c .before .before .before .before .before .before .before .before .before .before .before .before .before .before .pre in
+    let room = p .0 in
+    let e = c .before .before .reference-of .ensures in
+    let filled = p .1 .1 .1 (not-false _ (c .before .before .before .before .if1 .left)) in (
+      rw e (room .hop),
+      (
+        rw e (some-bands _ _ (room .both) (p .1 .0)),
+        (
+          rw e (room .few),
+          (
+            rw e (room .short),
+            (rw e (room .fine), (rw e (room .fine-squares), (rw e (room .coarse), (rw e (room .coarse-squares), (room .work32, (rw e (room .work64), filled-of (sym e) filled)))))),
+          ),
+        ),
+      ),
+    )
+
+returns-2 : tie.Need-returns-2
+returns-2 c =
+    let a = c .before .before .before .before .before .before .before .before .before .before .before .before .before .before .before .before .before .before .before .before .args in
+    let s = a .settings in
+    let m = matcherIn s (lent (a .fine .now) (a .coarse .now) (a .fine-squares .now) (a .coarse-squares .now)) in
+    let w = window (a .bands) (a .times .now) (a .energies .now) (a .values .now) in
+    let found = c .before .before .before .before .before .whole-found .ensures in
+    let done = c .whole-searched .ensures in (
+      rw (not-false (a .due) (c .before .before .before .before .before .before .before .before .before .before .if1 .left)) (done .0 ∙ whole-made m (s .«hop_ms») w (reachedIn (a .reached)) (a .lock .pending) (trackedIn (a .t)) (rw (c .before .before .before .before .before .before .before .before .reference-of .ensures) at (found .0))),
+      rw (done .1) (found .1),
+    )
+
+pub then-whole-spec : {M : Type 1} → statement M
+then-whole-spec =
+    tie.close
+    (tie.spec
+    (λ c κs. search needs)
+    returns
+    (λ c. search needs)
+    (λ c. search needs)
+    (λ c. search needs)
+    (λ c κs. search needs)
+    whole-found-requires
+    (λ c κs. search needs)
+    (λ c. search needs)
+    (λ c. search needs)
+    returns-2)

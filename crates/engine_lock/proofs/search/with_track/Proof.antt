@@ -1,0 +1,60 @@
+-- `engine_lock::search::with_track` meets its contract. Assumes nothing.
+use borrow.Author.Needs.{needs}
+use mathlib.Core.Path.{_∙_}
+use Rattle.engine_spec.specs.Windows.{matcherIn}
+use Rattle.engine_spec.specs.Lent.{lent, window}
+use Rattle.engine_lock.specs.Views.{reachedIn}
+use Rattle.engine_lock.proofs.SearchLaws.{some-bands, room-kept, filled-of, by-track}
+use Rattle.engine_lock.proofs.search.with_track.Statement.{statement}
+use Rattle.engine_lock.proofs.search.with_track.Tie as tie
+
+fill-query-requires : tie.Need-fill-query-requires
+fill-query-requires c κs =
+    let p = c .before .before .before .before .before .before .before .before .before .before .before .before .before .before .pre in
+    let room = p .0 in
+    let e = c .before .before .reference-of .ensures in
+    (rw e (room .hop), (rw e (some-bands _ _ (room .both) (p .1)), (room .values, (room .work32, rw e (room .work64)))))
+
+tracked-requires : tie.Need-tracked-requires
+tracked-requires c κs =
+    let p = c .before .before .before .before .before .before .before .before .before .before .before .before .before .before .before .before .before .before .before .before .before .pre in
+    let filled = c .before .before .before .before .before .before .fill-query in
+    (room-kept (filled .kept .1 .1 .1 .1 .0) (filled .kept .1 .1 .1 .1 .1 .0) (p .0), (p .1, filled-of (c .before .before .before .before .before .before .before .before .before .reference-of .ensures) (filled .ensures)))
+
+then-whole-requires : tie.Need-then-whole-requires
+then-whole-requires c κs =
+    let p = c .before .before .before .before .before .before .before .before .before .before .before .before .before .before .before .before .before .before .before .before .before .before .before .before .before .before .before .pre in
+    let filled = c .before .before .before .before .before .before .before .before .before .before .before .before .fill-query .kept in
+    let found = c .before .before .before .before .before .tracked in
+    (room-kept (filled .1 .1 .1 .1 .0) (found .kept .1 .1 .1 .1 .1 .1 .1 .1 .1 .1 .1 .1 .0 ∙ filled .1 .1 .1 .1 .1 .0) (p .0), (p .1, (found .ensures .1 .0, (λ h. found .ensures .1 .1))))
+
+same-length : tie.Need-same-length
+same-length c = c .before .before .before .before .then-whole .kept .1 .1 .1 .1 .1 .1 .1 .1 .1 .1 .1 .1 .1 .1 .0 ∙ c .before .before .before .before .before .before .before .before .before .before .before .before .before .before .before .before .before .fill-query .kept .1 .1 .1 .1 .0
+
+same-length-2 : tie.Need-same-length-2
+same-length-2 c = c .before .before .before .before .then-whole .kept .1 .1 .1 .1 .1 .1 .1 .1 .1 .1 .1 .1 .1 .1 .1 .0 ∙ c .before .before .before .before .before .before .before .before .before .before .tracked .kept .1 .1 .1 .1 .1 .1 .1 .1 .1 .1 .1 .1 .0 ∙ c .before .before .before .before .before .before .before .before .before .before .before .before .before .before .before .before .before .fill-query .kept .1 .1 .1 .1 .1 .0
+
+returns : tie.Need-returns
+returns c =
+    let a = c .before .before .before .before .before .before .before .before .before .before .before .before .before .before .before .before .before .before .before .before .before .before .before .before .before .before .before .before .before .before .before .before .args in
+    let s = a .settings in
+    let m = matcherIn s (lent (a .fine .now) (a .coarse .now) (a .fine-squares .now) (a .coarse-squares .now)) in
+    let w = window (a .bands) (a .times .now) (a .energies .now) (a .values .now) in
+    let done = c .before .before .before .before .then-whole .ensures in
+    (done .0 ∙ by-track m (s .«hop_ms») w (reachedIn (a .reached)) (a .lock) (c .before .before .before .before .before .before .before .before .before .before .tracked .ensures .0) (c .before .before .before .before .before .before .before .is-whole-due .ensures), done .1)
+
+pub with-track-spec : {M : Type 1} → statement M
+with-track-spec =
+    tie.close
+    (tie.spec
+    (λ c. search needs)
+    (λ c. search needs)
+    (λ c. search needs)
+    (λ c κs. search needs)
+    fill-query-requires
+    tracked-requires
+    (λ c κs. search needs)
+    then-whole-requires
+    same-length
+    same-length-2
+    returns)

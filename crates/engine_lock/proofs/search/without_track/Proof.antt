@@ -1,0 +1,61 @@
+-- `engine_lock::search::without_track` meets its contract: without a track that may coast, tracking leaves none, which supports nothing. Assumes nothing.
+use borrow.Author.Needs.{needs}
+use mathlib.Core.List.{List, []}
+use mathlib.Core.Path.{sym, ap, _∙_}
+use lib.Dec.{lit≤}
+use Rattle.matcher_picks.specs.declared.candidates.Candidate.{Candidate}
+use Rattle.matcher_picks.proofs.CandidateLaws.{listed-result}
+use Rattle.engine_spec.specs.Windows.{matcherIn, endpointOf}
+use Rattle.engine_spec.specs.Tracking as tracking
+use Rattle.engine_spec.specs.Tracking.{unsupported}
+use Rattle.engine_spec.specs.Locking.{wholeDue}
+use Rattle.engine_spec.specs.declared.types.Hypothesis.the-variants as hypothesis
+use Rattle.engine_spec.specs.Lent.{lent, window}
+use Rattle.engine_lock.specs.Views.{reachedIn}
+use Rattle.engine_lock.proofs.SearchLaws.{some-bands, room-kept, filled-of, found-few, by-track}
+use Rattle.engine_lock.proofs.search.without_track.Statement.{statement}
+use Rattle.engine_lock.proofs.search.without_track.Tie as tie
+
+fill-if-requires : tie.Need-fill-if-requires
+fill-if-requires c κs =
+    let p = c .before .before .before .before .before .before .before .before .before .before .before .before .before .before .before .pre in
+    let room = p .0 in
+    let e = c .before .before .reference-of .ensures in
+    (rw e (room .hop), (rw e (some-bands _ _ (room .both) (p .1 .0)), (room .values, (room .work32, rw e (room .work64)))))
+
+then-whole-requires : tie.Need-then-whole-requires
+then-whole-requires c κs =
+    let p = c .before .before .before .before .before .before .before .before .before .before .before .before .before .before .before .before .before .before .before .before .before .before .before .before .pre in
+    let filled = c .before .before .before .before .before .before .before .before .fill-if in (
+      room-kept (filled .kept .1 .1 .1 .1 .1 .0) (filled .kept .1 .1 .1 .1 .1 .1 .0) (p .0),
+      (p .1 .0, (found-few [] (c .before .before .unsupported .ensures .1 ∙ c .before .before .before .nothing-found .ensures) (lit≤ tt), (λ h. filled-of (c .before .before .before .before .before .before .before .before .before .before .before .reference-of .ensures) (filled .ensures h)))),
+    )
+
+returns : tie.Need-returns
+returns c =
+    let start = c .before .before .before .before .before .before .before .before .before .before .before .before .before .before .before .before .before .before .before .before .before .before .before .before .before .before .before .before .before in
+    let a = start .args in
+    let s = a .settings in
+    let m = matcherIn s (lent (a .fine .now) (a .coarse .now) (a .fine-squares .now) (a .coarse-squares .now)) in
+    let w = window (a .bands) (a .times .now) (a .energies .now) (a .values .now) in
+    let none = c .before .before .before .before .before .before .before .unsupported .ensures .0 ∙ ap (λ (l : List Candidate). unsupported hypothesis.Absent l) (listed-result [] (c .before .before .before .before .before .before .before .before .nothing-found .ensures)) in
+    let due = c .before .before .before .before .before .before .before .before .before .before .before .before .before .before .before .before .before .is-whole-due .ensures ∙ sym (ap (λ (u : tracking.Tracked). wholeDue (u .supported) (endpointOf w) (a .lock .«last_global_search_ms»)) none) in
+    let done = c .before .before .before .before .then-whole .ensures in
+    (done .0 ∙ by-track m (s .«hop_ms») w (reachedIn (a .reached)) (a .lock) (none ∙ start .pre .1 .1) due, done .1)
+
+pub without-track-spec : {M : Type 1} → statement M
+without-track-spec =
+    tie.close
+    (tie.spec
+    (λ c. search needs)
+    (λ c. search needs)
+    (λ c. search needs)
+    (λ c κs. search needs)
+    (λ c κs. search needs)
+    fill-if-requires
+    (λ c κs. search needs)
+    (λ c κs. search needs)
+    then-whole-requires
+    (λ c. search needs)
+    (λ c. search needs)
+    returns)
