@@ -1,5 +1,6 @@
 //! Makes the comparison build: reads types.rs, matcher.rs and engine.rs, edits them and writes them
-//! to OUT_DIR, where lib.rs includes them; beside them, in own/, matcher.rs with its own functions.
+//! to OUT_DIR, where lib.rs includes them; beside them, in own/, matcher.rs and engine.rs with their
+//! own functions.
 //! Every edit says how often it matches, so that another source than the expected one stops the
 //! build and is not compared half edited.
 
@@ -17,6 +18,7 @@ fn main() {
     make(&from, &to, "matcher.rs", matcher);
     make(&from, &to, "engine.rs", engine);
     make(&from, &to.join("own"), "matcher.rs", own_matcher);
+    make(&from, &to.join("own"), "engine.rs", own_engine);
 }
 
 fn types(file: &mut File) {
@@ -70,12 +72,25 @@ fn engine(file: &mut File) {
         "mean_power.log10()",
         "crate::replaced::log10(mean_power)",
     );
+    file.lacks_functions();
+    open_engine(file);
+}
+
+/// The same but for the functions that it calls, and over its own matcher.
+fn own_engine(file: &mut File) {
+    file.has(1, "(-dt / 300.0).exp()");
+    file.has(1, "10.0_f64.powf(frame.energy_dbfs / 10.0)");
+    file.has(1, "mean_power.log10()");
+    file.replace(1, "use crate::matcher::", "use crate::own::matcher::");
+    open_engine(file);
+}
+
+fn open_engine(file: &mut File) {
     file.replace(1, "\nstruct Hypothesis {", "\npub struct Hypothesis {");
     file.open_fields("pub struct Hypothesis {", 4);
     file.open_fields("pub struct Engine {", 11);
     file.replace(2, "\n    fn ", "\n    pub fn ");
     file.replace(1, "\nfn ", "\npub fn ");
-    file.lacks_functions();
 }
 
 fn make(from: &Path, to: &Path, name: &'static str, edit: fn(&mut File)) {

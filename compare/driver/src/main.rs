@@ -1,10 +1,12 @@
 //! Runs the port beside the Rust in one process. What each mode does stands in the README.
 
 mod compare;
+mod engine;
 mod family;
 mod matcher;
 mod numbers;
 mod progress;
+mod random;
 mod sessions;
 mod value;
 
@@ -15,6 +17,8 @@ use std::{env, io};
 
 const USAGE: &str = "\
 usage: run [--quick | --bench | --list | --matcher-list | --sessions | --samples]
+       run --engine [--quick]
+       run --session NUMBER
        run --repeat (whole | local | opening) (ours | replaced | own)";
 
 fn main() -> ExitCode {
@@ -23,6 +27,13 @@ fn main() -> ExitCode {
     match words[..] {
         [] => verdict(check(Effort::full())),
         ["--quick"] => verdict(check(Effort::QUICK)),
+        ["--engine"] => verdict(engine::check::check(Effort::full())),
+        ["--engine", "--quick"] => verdict(engine::check::check(Effort::QUICK)),
+        ["--rehearse", number] => print(&engine::check::rehearse(number.parse().unwrap())),
+        ["--session", number] => match number.parse() {
+            Ok(number) => print(&engine::check::shown(number)),
+            Err(_) => usage(),
+        },
         ["--bench"] => print(&(numbers::bench::table() + "\n" + &matcher::bench::table())),
         ["--repeat", operation, side] => match matcher::bench::repeat(operation, side) {
             Some(line) => print(&line),
@@ -47,6 +58,7 @@ fn check(effort: Effort) -> bool {
         numbers::check::check(effort),
         matcher::check::check(effort),
         sessions::check(),
+        engine::check::check(effort),
     ];
     parts.into_iter().all(|same| same)
 }

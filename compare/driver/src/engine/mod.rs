@@ -1,0 +1,13 @@
+//! The engine of the port beside the Rust's: whole sessions, refusals, states made by a caller,
+//! altered indexes.
+
+mod both;
+pub mod check;
+mod generate;
+mod kinds;
+mod ours;
+mod readable;
+mod reading;
+mod session;
+mod theirs;
+mod words;
