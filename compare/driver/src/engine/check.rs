@@ -139,6 +139,7 @@ pub fn rehearse(count: u64) -> String {
                 assert_eq!(reading::is_reread(&seen.settings, &seen.before, seen.window), seen.code == 100);
             }
             counts.note(&seen);
+            if std::env::var("SHOW").is_ok_and(|n| n == number.to_string()) { println!("{} {:?} {}", submission.shows, submission.window.times.last(), readable::told(&seen)); }
             theirs.settings.hop = hop;
             submissions += 1;
             entry.1 += 1;

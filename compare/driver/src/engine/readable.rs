@@ -43,7 +43,7 @@ pub fn line(
     )
 }
 
-fn told(seen: &Seen) -> String {
+pub fn told(seen: &Seen) -> String {
     let Some(snapshot) = &seen.snapshot else {
         return format!("refused {}", seen.code);
     };

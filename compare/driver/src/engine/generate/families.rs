@@ -32,13 +32,16 @@ const HOPS: [f64; 22] = [
     1_000.0,
 ];
 
+/// Those at which sound is mostly cut into frames.
+const USUAL_HOPS: [f64; 8] = [10.0, 16.0, 20.0, 20.0, 23.22, 25.0, 32.0, 50.0];
+
 const MOST_FRAMES: usize = 1_024;
 
 pub fn general(mut random: Random) -> Session {
-    let hop = if random.one_in(8) {
-        1.0 + random.unit() * 999.0
-    } else {
-        random.one_of(&HOPS)
+    let hop = match random.below(16) {
+        0 | 1 => 1.0 + random.unit() * 999.0,
+        2..=8 => random.one_of(&USUAL_HOPS),
+        _ => random.one_of(&HOPS),
     };
     let starts = [0.0, -0.0, 5_000.0, -80_000.0, 1e6, 123_456.75];
     let (start, begin) = (random.one_of(&starts), random.one_of(&starts));
@@ -60,8 +63,9 @@ pub fn far(mut random: Random) -> Session {
 
 fn by_chance(mut random: Random, hop: f64, start: f64, begin: f64) -> Scene {
     let (configuration, least) = configuration(&mut random, hop);
-    let frames = (least + random.below(24)).min(MOST_FRAMES);
-    let bands = random.one_of(&[1, 1, 2, 2, 3, 4, 6]);
+    let longer = random.one_of(&[8, 24, 80]);
+    let frames = (least + random.below(longer)).min(MOST_FRAMES);
+    let bands = random.one_of(&[1, 2, 2, 3, 4, 6, 8]);
     let centred = frames.saturating_sub(2 * radius(hop));
     let long = lasting(25_000.0, hop).min(1_500);
     let more = random.one_of(&[0, 1, 5, 40, 200, long, long, long, 2 * long]);
@@ -117,9 +121,9 @@ pub fn tiny(mut random: Random) -> Session {
 
 /// A scene whose window is long enough for all advances, in a reference long enough for them.
 fn roomy(mut random: Random, hop: f64, bands: usize) -> Scene {
-    let frames = fewest(hop).max(lasting(2_600.0, hop)) + random.below(5);
+    let frames = fewest(hop).max(lasting(2_600.0, hop)) + random.below(40);
     let count = frames + lasting(20_000.0, hop);
-    let kind = random.one_of(&[Sound::Smooth, Sound::Noise]);
+    let kind = random.one_of(&[Sound::Smooth, Sound::Smooth, Sound::Noise]);
     let film = reference(&mut random, kind, hop, 0.0, bands, count);
     let begin = random.below(100) as f64 * 10.0;
     let configuration = ready(hop, frames);
@@ -128,12 +132,12 @@ fn roomy(mut random: Random, hop: f64, bands: usize) -> Scene {
     scene
 }
 
-const WHOLE_HOPS: [f64; 8] = [20.0, 40.0, 50.0, 80.0, 100.0, 125.0, 250.0, 500.0];
+const WHOLE_HOPS: [f64; 8] = [10.0, 20.0, 40.0, 50.0, 100.0, 125.0, 250.0, 500.0];
 
 /// Neighbours of a chain at either side of 2,500, and its length at either side of 1,000 - hop.
 pub fn chains(mut random: Random) -> Session {
     let hop = random.one_of(&WHOLE_HOPS);
-    let mut scene = roomy(random, hop, 2);
+    let mut scene = roomy(random, hop, 4);
     let steps = [
         2_500.0,
         2_500.0,
@@ -169,7 +173,7 @@ pub fn chains(mut random: Random) -> Session {
 /// Searches that fail at the pending place, at either side of 2,500 after the last that passed.
 pub fn held(mut random: Random) -> Session {
     let hop = random.one_of(&WHOLE_HOPS);
-    let mut scene = roomy(random, hop, 2);
+    let mut scene = roomy(random, hop, 4);
     for _ in 0..4 {
         scene.go_to(2.0);
         scene.hear();
@@ -191,7 +195,7 @@ pub fn held(mut random: Random) -> Session {
 /// Coasts of exactly 1,500, and just past it.
 pub fn coasts(mut random: Random) -> Session {
     let hop = random.one_of(&WHOLE_HOPS);
-    let mut scene = roomy(random, hop, 2);
+    let mut scene = roomy(random, hop, 4);
     for _ in 0..3 {
         scene.go_to(2.0);
         scene.hear();
@@ -219,7 +223,7 @@ pub fn coasts(mut random: Random) -> Session {
 /// One passing search is a chain, on a jump too.
 pub fn at_hop_1000(random: Random) -> Session {
     let hop = 1_000.0;
-    let mut scene = roomy(random, hop, 1);
+    let mut scene = roomy(random, hop, 3);
     scene.hear();
     for _ in 0..14 {
         match scene.random.below(7) {
@@ -251,13 +255,13 @@ pub fn at_hop_1000(random: Random) -> Session {
 
 /// What is heard goes on elsewhere: where the old place still scores, and where it does not.
 pub fn distant(mut random: Random) -> Session {
-    let hop = random.one_of(&[125.0, 250.0, 500.0, 100.0, 1_000.0]);
-    let bands = 1 + random.below(2);
+    let hop = random.one_of(&[20.0, 25.0, 40.0, 50.0, 100.0, 500.0]);
+    let bands = 2 + random.below(3);
     let frames = fewest(hop).max(lasting(2_600.0, hop));
-    let part = frames + lasting(12_000.0, hop);
-    let mut film = reference(&mut random, Sound::Noise, hop, 0.0, bands, 3 * part);
+    let part = frames + lasting(30_000.0, hop);
+    let mut film = reference(&mut random, Sound::Smooth, hop, 0.0, bands, 3 * part);
     // The second part is the first, changed; the third is something else.
-    let change = random.one_of(&[0.2f32, 0.3, 0.4]);
+    let change = random.one_of(&[0.3f32, 0.5, 0.7]);
     for band in 0..bands {
         let row = band * 3 * part;
         for i in 0..part {
@@ -269,13 +273,10 @@ pub fn distant(mut random: Random) -> Session {
     let mut scene = Scene::new(random, hop, configuration, film, frames, 0.0, 1.0);
     scene.hear();
     scene.after(1_000.0).hear();
-    let rest = scene.random.one_of(&[2_000.0, 500.0]);
-    for part_heard in [1, 0, 2, 0] {
-        let place = (part_heard * part + 3) as f64;
-        scene.after(rest);
-        scene.go_to(place);
-        scene.hear();
-        for _ in 0..3 {
+    let rest = scene.random.one_of(&[1_000.0, 1_000.0, 500.0]);
+    for parts in [1.0, -1.0, 2.0, -2.0] {
+        scene.offset += parts * part as f64 * hop;
+        for _ in 0..6 {
             scene.after(rest).hear();
         }
     }

@@ -50,13 +50,15 @@ pub fn noise(random: &mut Random) -> f32 {
     }
 }
 
+/// Whole searches look at averages of four frames first, so that only sound that lasts some frames
+/// is found wherever it begins.
 fn smooth(random: &mut Random, frames: usize, values: &mut Vec<f32>) {
     let mut level = random.unit() * 4.0;
     for _ in 0..frames {
-        if random.one_in(9) {
-            level = random.unit() * 12.0;
+        if random.one_in(12) {
+            level = random.unit() * 16.0;
         }
-        level = level * 0.75 + random.unit();
+        level = level * 0.9 + random.unit() * 0.5;
         values.push(level as f32);
     }
 }
