@@ -31,6 +31,7 @@ impl Kept {
 }
 
 /// The four parts of an index, each band after band: values, averages, and the energies of both.
+#[derive(Clone, Debug, Default)]
 pub struct Rows {
     pub fine: Vec<f32>,
     pub coarse: Vec<f32>,
@@ -41,10 +42,21 @@ pub struct Rows {
 pub trait Running {
     fn is_indexed(&self) -> bool;
     fn index(&self) -> Option<Rows>;
+    /// Puts other numbers in the place of the index's. They must be as many.
+    fn alter(&mut self, rows: &Rows);
     fn process(&mut self, query: &FeatureWindow, elapsed_ms: f64) -> Snapshot;
     fn kept(&self) -> Kept;
     fn keep(&mut self, kept: Kept);
     fn last_snapshot(&mut self) -> Option<&mut Snapshot>;
+}
+
+/// Copies numbers into bands, one after the other.
+pub fn refill<T: Copy>(bands: &mut [Vec<T>], mut from: &[T]) {
+    for band in bands {
+        let (row, rest) = from.split_at(band.len());
+        band.copy_from_slice(row);
+        from = rest;
+    }
 }
 
 /// `Engine::new` of some build.
@@ -66,6 +78,16 @@ macro_rules! running {
                     fine_squares: matcher.fine.energy.concat(),
                     coarse_squares: matcher.coarse.energy.concat(),
                 })
+            }
+
+            fn alter(&mut self, rows: &$crate::running::Rows) {
+                use $crate::running::refill;
+                if let Some(matcher) = &mut self.matcher {
+                    refill(&mut matcher.fine.values, &rows.fine);
+                    refill(&mut matcher.coarse.values, &rows.coarse);
+                    refill(&mut matcher.fine.energy, &rows.fine_squares);
+                    refill(&mut matcher.coarse.energy, &rows.coarse_squares);
+                }
             }
 
             fn process(

@@ -7,7 +7,7 @@ use super::session::{Lent, Opening, Settings, Submission};
 use super::theirs::{Seen, Theirs};
 use super::words::{self, place};
 use crate::value::{same, Value};
-use sonalign::running::{self, Kept, Rows};
+use sonalign::running::{self, Kept};
 
 pub struct Both {
     pub ours: Ours,
@@ -118,13 +118,7 @@ impl Both {
 
     /// The index is the Rust's and the tails stay; without one nothing is written.
     fn compare_index(&self) -> Result<(), String> {
-        let none = Rows {
-            fine: vec![],
-            coarse: vec![],
-            fine_squares: vec![],
-            coarse_squares: vec![],
-        };
-        let rows = self.theirs.index().unwrap_or(none);
+        let rows = self.theirs.index().unwrap_or_default();
         let index = &self.ours.index;
         let same = begins(&index.fine, &rows.fine, OLD as f32)
             && begins(&index.coarse, &rows.coarse, OLD as f32)

@@ -2,7 +2,7 @@
 
 use super::both::{Both, Opened};
 use super::theirs::Seen;
-use super::generate;
+use super::{altered, generate, made};
 use super::kinds::{Counts, Kind};
 use super::readable;
 use super::session::Session;
@@ -20,7 +20,12 @@ struct Tally {
 }
 
 pub fn check(effort: Effort) -> bool {
-    sessions(effort)
+    let parts = [
+        sessions(effort),
+        made::check(effort),
+        altered::check(effort),
+    ];
+    parts.into_iter().all(|same| same)
 }
 
 fn sessions(effort: Effort) -> bool {

@@ -1,10 +1,12 @@
 //! The engine of the port beside the Rust's: whole sessions, refusals, states made by a caller,
 //! altered indexes.
 
+mod altered;
 mod both;
 pub mod check;
 mod generate;
 mod kinds;
+mod made;
 mod ours;
 mod readable;
 mod reading;

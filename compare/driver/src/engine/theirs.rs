@@ -52,6 +52,10 @@ impl Theirs {
         self.engine.index()
     }
 
+    pub fn alter(&mut self, rows: &Rows) {
+        self.engine.alter(rows);
+    }
+
     pub fn kept(&self) -> Kept {
         self.engine.kept()
     }

@@ -2,7 +2,10 @@
 
 use super::session::Settings;
 use sonalign::running::{Kept, Track};
-use sonalign::types::{CandidateDiagnostics, Diagnostics, Snapshot};
+use sonalign::types::{
+    CandidateDiagnostics, Diagnostics, Estimate, LockPhase, Snapshot, SpectralDiagnostics, Stage,
+    State, WithholdReason,
+};
 
 pub const LAYOUT: u64 = 1;
 pub const STATE: usize = 106;
@@ -170,6 +173,136 @@ impl Words {
         self.float(c.combined_dense_score);
     }
 }
+
+// ---- back from words
+
+/// What a state's words keep.
+pub fn kept(words: &[u64]) -> Kept {
+    use place::*;
+    let has_snapshot = words[HAS_SNAPSHOT] == 1;
+    Kept {
+        pending: numbers(&words[PENDING..]),
+        accepted: numbers(&words[ACCEPTED..]),
+        last_global_search_ms: f64::from_bits(words[SEARCH]),
+        milestones: milestones(&words[MILESTONES..]),
+        last_endpoint_ms: maybe(&words[ENDPOINT..]),
+        last_snapshot: has_snapshot.then(|| snapshot_of(&words[LAST_SNAPSHOT..])),
+    }
+}
+
+fn numbers<const N: usize>(words: &[u64]) -> Option<[f64; N]> {
+    (words[0] == 1).then(|| std::array::from_fn(|i| f64::from_bits(words[1 + i])))
+}
+
+fn maybe(words: &[u64]) -> Option<f64> {
+    numbers::<1>(words).map(|[x]| x)
+}
+
+fn milestones(words: &[u64]) -> [Option<f64>; 3] {
+    std::array::from_fn(|i| maybe(&words[2 * i..]))
+}
+
+fn snapshot_of(words: &[u64]) -> Snapshot {
+    let float = |word: usize| f64::from_bits(words[word]);
+    let flag = |word: usize| words[word] == 1;
+    let [first, second, third] = milestones(&words[place::SNAPSHOT_MILESTONES..]);
+    Snapshot {
+        state: STATES[words[0] as usize],
+        phase: PHASES[words[1] as usize],
+        stage: STAGES[words[2] as usize],
+        estimate: numbers(&words[place::ESTIMATE..]).map(|[endpoint, reference, offset]| {
+            Estimate {
+                query_endpoint_recorded_time_ms: endpoint,
+                reference_time_ms: reference,
+                offset_ms: offset,
+            }
+        }),
+        withhold_reason: words[7].checked_sub(1).map(|place| REASONS[place as usize]),
+        confidence: float(8),
+        diagnostics: Diagnostics {
+            query_duration_ms: float(9),
+            active_frame_fraction: float(10),
+            coarse_ambiguous: flag(11),
+            dense_margin: float(12),
+            offset_stability_ms: maybe(&words[13..]),
+            track_innovation_ms: maybe(&words[15..]),
+            track_count: words[17] as usize,
+            offset_tracker_confirmed: flag(18),
+            offset_tracker_stable: flag(19),
+            candidates: candidates_of(words),
+            spectral: SpectralDiagnostics {
+                global_search: flag(61),
+                correlation: float(62),
+                competing_peak_margin: maybe(&words[63..]),
+                first_half_correlation: float(65),
+                second_half_correlation: float(66),
+                recent_correlation: float(67),
+                fresh_evidence_ms: float(68),
+                coast_ms: float(69),
+            },
+        },
+        first_provisional_lock_elapsed_ms: first,
+        confirmed_lock_elapsed_ms: second,
+        final_lock_elapsed_ms: third,
+    }
+}
+
+fn candidates_of(words: &[u64]) -> Vec<CandidateDiagnostics> {
+    let float = |word: usize| f64::from_bits(words[word]);
+    let candidate = |place: usize| {
+        let at = 21 + 5 * place;
+        CandidateDiagnostics {
+            offset_ms: float(at),
+            coarse_offset_ms: float(at + 1),
+            comparable_frame_count: words[at + 2] as usize,
+            coverage_ratio: float(at + 3),
+            combined_dense_score: float(at + 4),
+        }
+    };
+    let count = words[place::CANDIDATE_COUNT] as usize;
+    (0..count.min(MOST_CANDIDATES)).map(candidate).collect()
+}
+
+/// In the order of their words.
+pub const STATES: [State; 9] = [
+    State::Ready,
+    State::Listening,
+    State::Locking,
+    State::Confirmed,
+    State::Locked,
+    State::Drifting,
+    State::Relocking,
+    State::Lost,
+    State::Failed,
+];
+pub const PHASES: [LockPhase; 4] = [
+    LockPhase::None,
+    LockPhase::Provisional,
+    LockPhase::Confirmed,
+    LockPhase::Final,
+];
+pub const STAGES: [Stage; 6] = [
+    Stage::Readiness,
+    Stage::LandmarkCoarse,
+    Stage::FastTimingVerify,
+    Stage::RobustVerify,
+    Stage::Tracking,
+    Stage::Relock,
+];
+pub const REASONS: [WithholdReason; 10] = [
+    WithholdReason::InsufficientDuration,
+    WithholdReason::InsufficientEnergy,
+    WithholdReason::InsufficientActiveFrames,
+    WithholdReason::InsufficientLandmarkEvidence,
+    WithholdReason::WeakAlignmentPeak,
+    WithholdReason::AmbiguousOffset,
+    WithholdReason::UnstableTrackingResidual,
+    WithholdReason::LostSignal,
+    WithholdReason::DecodeFailed,
+    WithholdReason::IndexUnavailable,
+];
+
+// ---- names
 
 /// The name of a state's word, for a report.
 pub fn state_name(word: usize) -> String {
