@@ -2,7 +2,7 @@
 
 use super::both::{Both, Opened};
 use super::theirs::Seen;
-use super::{altered, generate, made};
+use super::{altered, generate, made, refusals};
 use super::kinds::{Counts, Kind};
 use super::readable;
 use super::session::Session;
@@ -22,6 +22,7 @@ struct Tally {
 pub fn check(effort: Effort) -> bool {
     let parts = [
         sessions(effort),
+        refusals::check(),
         made::check(effort),
         altered::check(effort),
     ];

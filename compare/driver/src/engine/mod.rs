@@ -10,6 +10,7 @@ mod made;
 mod ours;
 mod readable;
 mod reading;
+mod refusals;
 mod session;
 mod theirs;
 mod words;

@@ -202,7 +202,8 @@ fn milestones(words: &[u64]) -> [Option<f64>; 3] {
     std::array::from_fn(|i| maybe(&words[2 * i..]))
 }
 
-fn snapshot_of(words: &[u64]) -> Snapshot {
+/// Of a snapshot's own words.
+pub fn snapshot_of(words: &[u64]) -> Snapshot {
     let float = |word: usize| f64::from_bits(words[word]);
     let flag = |word: usize| words[word] == 1;
     let [first, second, third] = milestones(&words[place::SNAPSHOT_MILESTONES..]);

@@ -112,6 +112,11 @@ impl Scene {
         }
     }
 
+    /// What was submitted so far.
+    pub fn submitted(&self) -> Vec<Submission> {
+        self.submissions.clone()
+    }
+
     pub fn hop(&self) -> f64 {
         self.opening.hop
     }
