@@ -29,7 +29,6 @@ fn main() -> ExitCode {
         ["--quick"] => verdict(check(Effort::QUICK)),
         ["--engine"] => verdict(engine::check::check(Effort::full())),
         ["--engine", "--quick"] => verdict(engine::check::check(Effort::QUICK)),
-        ["--rehearse", number] => print(&engine::check::rehearse(number.parse().unwrap())),
         ["--session", number] => match number.parse() {
             Ok(number) => print(&engine::check::shown(number)),
             Err(_) => usage(),

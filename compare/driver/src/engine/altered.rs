@@ -99,7 +99,14 @@ fn alter(random: &mut Random, both: &mut Both) {
 
 /// One number, a stretch or the whole buffer.
 fn spoil32(random: &mut Random, buffer: &mut [f32]) {
-    let odd = [f32::NAN, f32::INFINITY, f32::NEG_INFINITY, f32::MAX, 1e-45, -0.0];
+    let odd = [
+        f32::NAN,
+        f32::INFINITY,
+        f32::NEG_INFINITY,
+        f32::MAX,
+        1e-45,
+        -0.0,
+    ];
     let any = random.one_in(2);
     for at in stretch(random, buffer.len()) {
         buffer[at] = if any {
@@ -111,7 +118,14 @@ fn spoil32(random: &mut Random, buffer: &mut [f32]) {
 }
 
 fn spoil64(random: &mut Random, buffer: &mut [f64]) {
-    let odd = [f64::NAN, f64::INFINITY, f64::NEG_INFINITY, f64::MAX, 5e-324, -1.0];
+    let odd = [
+        f64::NAN,
+        f64::INFINITY,
+        f64::NEG_INFINITY,
+        f64::MAX,
+        5e-324,
+        -1.0,
+    ];
     let any = random.one_in(2);
     for at in stretch(random, buffer.len()) {
         buffer[at] = if any {
@@ -163,9 +177,13 @@ fn step(
     if snapshot[1 + place::CANDIDATE_COUNT] > MOST_CANDIDATES as u64 {
         return Err("more than eight candidates".into());
     }
-    tally.searched.fetch_add(u64::from(ours.code == COMPUTED), Relaxed);
+    tally
+        .searched
+        .fetch_add(u64::from(ours.code == COMPUTED), Relaxed);
     let seen = both.theirs.submit(&handed);
-    let same = seen.snapshot.is_some_and(|s| words::snapshot(&s) == snapshot)
+    let same = seen
+        .snapshot
+        .is_some_and(|s| words::snapshot(&s) == snapshot)
         && both.theirs.state() == both.ours.words();
     tally.as_the_rust.fetch_add(u64::from(same), Relaxed);
     // The Rust goes on from the port's state.

@@ -63,7 +63,9 @@ impl Both {
         if seen.snapshot.is_some() {
             let reread = reading::is_reread(&seen.settings, &seen.before, seen.window);
             if reread != (seen.code == REREAD) {
-                return Err(format!("document 01 says re-read: {reread}, the Rust does not"));
+                return Err(format!(
+                    "document 01 says re-read: {reread}, the Rust does not"
+                ));
             }
         }
         let ours = self.ours.submit(&handed)?;

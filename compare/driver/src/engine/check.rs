@@ -1,11 +1,11 @@
 //! Generated sessions of both sides, in step.
 
 use super::both::{Both, Opened};
-use super::theirs::Seen;
-use super::{altered, generate, made, refusals};
 use super::kinds::{Counts, Kind};
 use super::readable;
 use super::session::Session;
+use super::theirs::Seen;
+use super::{altered, generate, made, refusals};
 use crate::compare::Effort;
 use crate::progress::Progress;
 use std::sync::atomic::{AtomicU64, Ordering::Relaxed};
@@ -30,7 +30,7 @@ pub fn check(effort: Effort) -> bool {
 }
 
 fn sessions(effort: Effort) -> bool {
-    let count = effort.pick(1_536, 72_000);
+    let count = effort.pick(6_144, 49_152);
     let tally = Tally {
         counts: Counts::new(),
         submissions: AtomicU64::new(0),
@@ -58,7 +58,7 @@ fn sessions(effort: Effort) -> bool {
     println!(
         "engine        {count} sessions, {submissions} submissions, {differences} differences"
     );
-    let reached = tally.counts.told(effort.pick(false, true));
+    let reached = tally.counts.told();
     differences == 0 && reached
 }
 
@@ -114,44 +114,4 @@ pub fn shown(number: u64) -> String {
         }
     }
     text
-}
-
-pub fn rehearse(count: u64) -> String {
-    use super::theirs::Theirs;
-    use super::reading;
-    use super::session::lent_index;
-    let counts = Counts::new();
-    let mut submissions = 0;
-    let mut families = std::collections::BTreeMap::<&str, (u64, u64, f64)>::new();
-    for number in 0..count {
-        let t = std::time::Instant::now();
-        let session = generate::session(number);
-        let lent = lent_index(&session.opening, 0);
-        let entry = families.entry(session.family).or_default();
-        entry.0 += 1;
-        if let Some(code) = reading::opening_refusal(&session.opening, lent) {
-            counts.note_refused_opening(code);
-            continue;
-        }
-        let mut theirs = Theirs::open(sonalign::running::open, &session.opening, 0);
-        assert_eq!(theirs.is_indexed(), reading::is_accepted(&session.opening));
-        if !theirs.is_indexed() { counts.add(Kind::OpenedWithoutIndex); }
-        for submission in &session.submissions {
-            let hop = theirs.settings.hop;
-            if submission.lent == super::session::Lent::SpoiltState { theirs.settings.hop = f64::NAN; }
-            let handed = theirs.handed(submission);
-            let seen = theirs.submit(&handed);
-            if seen.snapshot.is_some() {
-                assert_eq!(reading::is_reread(&seen.settings, &seen.before, seen.window), seen.code == 100);
-            }
-            counts.note(&seen);
-            if std::env::var("SHOW").is_ok_and(|n| n == number.to_string()) { println!("{} {:?} {}", submission.shows, submission.window.times.last(), readable::told(&seen)); }
-            theirs.settings.hop = hop;
-            submissions += 1;
-            entry.1 += 1;
-        }
-        entry.2 += t.elapsed().as_secs_f64();
-    }
-    counts.told(true);
-    format!("{submissions}\n{families:#?}\n")
 }

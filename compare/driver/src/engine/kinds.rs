@@ -1,122 +1,115 @@
 //! What sessions reach. A kind that none reaches fails the run: sessions that never come to a corner
 //! would say nothing of it.
 
-use super::theirs::Seen;
 use super::ours::{COMPUTED, REREAD};
 use super::reading::Jump;
+use super::theirs::Seen;
+use sonalign::replaced::LN_OF_10;
 use sonalign::running::{Kept, Track};
 use sonalign::types::{Snapshot, State, WithholdReason};
 use std::sync::atomic::{AtomicU64, Ordering::Relaxed};
 
 macro_rules! kinds {
-    ($($kind:ident $name:literal $quick:ident,)*) => {
+    ($($kind:ident $name:literal,)*) => {
         #[derive(Clone, Copy, Debug, PartialEq)]
         pub enum Kind {
             $($kind,)*
         }
 
-        /// Each kind with its name, and the runs that must reach it.
-        const KINDS: &[(Kind, &str, Asked)] = &[$((Kind::$kind, $name, Asked::$quick),)*];
+        const KINDS: &[(Kind, &str)] = &[$((Kind::$kind, $name),)*];
     };
 }
 
-/// Whether the quick run has to reach a kind too; the full run has to reach all.
-#[derive(Clone, Copy, Debug, PartialEq)]
-enum Asked {
-    Always,
-    Full,
-}
-
 kinds! {
-    OpeningRefused1 "opening refused 1" Always,
-    OpeningRefused2 "opening refused 2" Always,
-    OpeningRefused3 "opening refused 3" Always,
-    OpeningRefused4 "opening refused 4" Always,
-    OpeningRefused5 "opening refused 5" Always,
-    OpeningRefused6 "opening refused 6" Always,
-    OpenedWithoutIndex "engine without index" Always,
-    Refused6 "refused 6" Always,
-    Refused7 "refused 7" Always,
-    Refused8 "refused 8" Always,
-    Refused9 "refused 9" Always,
-    Refused10 "refused 10" Always,
-    Refused11 "refused 11" Always,
-    Refused12 "refused 12" Always,
-    Refused13 "refused 13" Always,
-    Reread "re-reading" Always,
-    RereadEstimate "re-reading that moves an estimate" Always,
-    RereadWithoutIndex "re-reading without index" Always,
-    RereadUnmatched "re-reading turned down by its timeline" Always,
-    JumpBack "jump back" Always,
-    JumpOn "jump on" Always,
-    NoJumpAtTwoHops "no jump: start exactly 2 hops past" Always,
-    Listening "Listening" Always,
-    Locking "Locking" Always,
-    Locked "Locked" Always,
-    Relocking "Relocking" Always,
-    Lost "Lost" Always,
-    Failed "Failed" Always,
-    Supported "no reason to withhold" Always,
-    InsufficientDuration "InsufficientDuration" Always,
-    InsufficientEnergy "InsufficientEnergy" Always,
-    InsufficientActiveFrames "InsufficientActiveFrames" Always,
-    WeakAlignmentPeak "WeakAlignmentPeak" Always,
-    AmbiguousOffset "AmbiguousOffset" Always,
-    LostSignal "LostSignal" Always,
-    IndexUnavailable "IndexUnavailable" Always,
-    InfinitePower "mean power of plus infinity" Always,
-    WholeWithoutCandidates "whole search without candidates" Always,
-    EightCandidates "eight candidates" Always,
-    Apart750 "candidates exactly 750 apart" Always,
-    Clamp "parabola's clamp reached" Always,
-    LoneWeak "lone candidate below 0.06" Always,
-    MarginBelow "margin within 0.001 below 0.06" Always,
-    MarginAbove "margin within 0.001 above 0.06" Always,
-    LoneBelow "lone margin within 0.001 below 0.06" Always,
-    LoneAbove "lone margin within 0.001 above 0.06" Always,
-    ConfidenceOne "confidence at 1" Always,
-    Passing "passing whole search" Always,
-    FailingHalf "search that fails by a half alone" Always,
-    PassingNoRecent "passing search without recent support" Always,
-    Carried "pending carried" Always,
-    Carried2500 "pending carried at exactly 2,500" Always,
-    NotCarried2500 "pending not carried just past 2,500" Always,
-    Moved "pending moved by more than 80" Always,
-    Held "pending held" Always,
-    Held2500 "pending held at exactly 2,500" Always,
-    NotHeld2500 "pending not held just past 2,500" Always,
-    DroppedElsewhere "pending dropped by a peak elsewhere" Always,
-    ChainEnd "chain's end" Always,
-    ChainEndOnJump "chain's end on a jump" Always,
-    ChainEndFirst "first chain's end" Always,
-    ChainEndAgain "later chain's end after a loss" Always,
-    DistantOverSupported "distant chain replaces a supported track" Always,
-    DistantOverCoasting "distant chain replaces a coasting track" Always,
-    NearOverSupported "near chain keeps a supported track" Always,
-    NearOverCoasting "near chain replaces a coasting track" Always,
-    LocalSupport "local support" Always,
-    LocalFails "local search without support" Always,
-    LocalOnly "local search alone" Always,
-    LocalAndWhole "local and whole search" Always,
-    Coast "coast" Always,
-    Coast1500 "coast of exactly 1,500" Always,
-    CoastOver "coast ended just past 1,500" Always,
-    SearchAt500 "whole search exactly 500 after the last" Always,
-    SearchAt2000 "whole search of a supported track exactly 2,000 after the last" Always,
-    Hop1 "searched at hop 1" Always,
-    Hop20 "searched at hop 20" Always,
-    Hop23 "searched at hop 23.22" Always,
-    Hop250 "searched at hop 250" Always,
-    Hop500 "searched at hop 500" Always,
-    HopPast500 "searched at hop 500.00000000000006" Always,
-    Hop501 "searched at hop 501" Always,
-    Hop1000 "searched at hop 1,000" Always,
-    FarPast "locked above 9.99 × 10^11" Always,
-    FarBefore "locked below -9.99 × 10^11" Always,
-    Subnormal "searched with subnormal values" Always,
-    Loudest "searched with the largest f32" Always,
-    Reference2 "reference of 2 frames" Always,
-    Reference65535 "reference of 65,535 frames searched" Always,
+    OpeningRefused1 "opening refused 1",
+    OpeningRefused2 "opening refused 2",
+    OpeningRefused3 "opening refused 3",
+    OpeningRefused4 "opening refused 4",
+    OpeningRefused5 "opening refused 5",
+    OpeningRefused6 "opening refused 6",
+    OpenedWithoutIndex "engine without index",
+    Refused6 "refused 6",
+    Refused7 "refused 7",
+    Refused8 "refused 8",
+    Refused9 "refused 9",
+    Refused10 "refused 10",
+    Refused11 "refused 11",
+    Refused12 "refused 12",
+    Refused13 "refused 13",
+    Reread "re-reading",
+    RereadEstimate "re-reading that moves an estimate",
+    RereadWithoutIndex "re-reading without index",
+    RereadUnmatched "re-reading turned down by its timeline",
+    JumpBack "jump back",
+    JumpOn "jump on",
+    NoJumpAtTwoHops "no jump: start exactly 2 hops past",
+    Listening "Listening",
+    Locking "Locking",
+    Locked "Locked",
+    Relocking "Relocking",
+    Lost "Lost",
+    Failed "Failed",
+    Supported "no reason to withhold",
+    InsufficientDuration "InsufficientDuration",
+    InsufficientEnergy "InsufficientEnergy",
+    InsufficientActiveFrames "InsufficientActiveFrames",
+    WeakAlignmentPeak "WeakAlignmentPeak",
+    AmbiguousOffset "AmbiguousOffset",
+    LostSignal "LostSignal",
+    IndexUnavailable "IndexUnavailable",
+    InfinitePower "mean power of plus infinity",
+    WholeWithoutCandidates "whole search without candidates",
+    EightCandidates "eight candidates",
+    Apart750 "candidates exactly 750 apart",
+    Clamp "parabola's clamp reached",
+    LoneWeak "lone candidate below 0.06",
+    MarginBelow "margin within 0.001 below 0.06",
+    MarginAbove "margin within 0.001 above 0.06",
+    LoneBelow "lone margin within 0.001 below 0.06",
+    LoneAbove "lone margin within 0.001 above 0.06",
+    ConfidenceOne "confidence at 1",
+    Passing "passing whole search",
+    FailingHalf "search that fails by a half alone",
+    PassingNoRecent "passing search without recent support",
+    Carried "pending carried",
+    Carried2500 "pending carried at exactly 2,500",
+    NotCarried2500 "pending not carried just past 2,500",
+    Moved "pending moved by more than 80",
+    Held "pending held",
+    Held2500 "pending held at exactly 2,500",
+    NotHeld2500 "pending not held just past 2,500",
+    DroppedElsewhere "pending dropped by a peak elsewhere",
+    ChainEnd "chain's end",
+    ChainEndOnJump "chain's end on a jump",
+    ChainEndFirst "first chain's end",
+    ChainEndAgain "later chain's end after a loss",
+    DistantOverSupported "distant chain replaces a supported track",
+    DistantOverCoasting "distant chain replaces a coasting track",
+    NearOverSupported "near chain keeps a supported track",
+    NearOverCoasting "near chain replaces a coasting track",
+    LocalSupport "local support",
+    LocalFails "local search without support",
+    LocalOnly "local search alone",
+    LocalAndWhole "local and whole search",
+    Coast "coast",
+    Coast1500 "coast of exactly 1,500",
+    CoastOver "coast ended just past 1,500",
+    SearchAt500 "whole search exactly 500 after the last",
+    SearchAt2000 "whole search of a supported track exactly 2,000 after the last",
+    Hop1 "searched at hop 1",
+    Hop20 "searched at hop 20",
+    Hop23 "searched at hop 23.22",
+    Hop250 "searched at hop 250",
+    Hop500 "searched at hop 500",
+    HopPast500 "searched at hop 500.00000000000006",
+    Hop501 "searched at hop 501",
+    Hop1000 "searched at hop 1,000",
+    FarPast "locked above 9.99 × 10^11",
+    FarBefore "locked below -9.99 × 10^11",
+    Subnormal "searched with subnormal values",
+    Loudest "searched with the largest f32",
+    Reference2 "reference of 2 frames",
+    Reference65535 "reference of 65,535 frames searched",
 }
 
 /// How often each kind was reached.
@@ -135,14 +128,13 @@ impl Counts {
         self.0[kind as usize].load(Relaxed)
     }
 
-    /// Prints the table. False where a kind that has to be was not reached.
-    pub fn told(&self, full: bool) -> bool {
+    /// Prints the table. False where a kind was not reached.
+    pub fn told(&self) -> bool {
         let mut all = true;
-        for &(kind, name, asked) in KINDS {
+        for &(kind, name) in KINDS {
             let count = self.of(kind);
-            let missing = count == 0 && (full || asked == Asked::Always);
-            all &= !missing;
-            let remark = if missing { "  NOT REACHED" } else { "" };
+            all &= count > 0;
+            let remark = if count == 0 { "  NOT REACHED" } else { "" };
             println!("  {name:<62} {count:>9}{remark}");
         }
         all
@@ -262,26 +254,30 @@ impl Kinds {
             Some(LostSignal) => Kind::LostSignal,
             Some(IndexUnavailable) => Kind::IndexUnavailable,
             // No engine gives these.
-            Some(
-                InsufficientLandmarkEvidence | UnstableTrackingResidual | DecodeFailed,
-            ) => return,
+            Some(InsufficientLandmarkEvidence | UnstableTrackingResidual | DecodeFailed) => return,
         });
     }
 
     fn places(&mut self, seen: &Seen, snapshot: &Snapshot) {
         self.add_if(Kind::JumpBack, seen.jump == Some(Jump::Back));
         self.add_if(Kind::JumpOn, seen.jump == Some(Jump::On));
-        let (start, end) = (seen.window.times[0], seen.window.times[seen.window.times.len() - 1]);
+        let (start, end) = (
+            seen.window.times[0],
+            seen.window.times[seen.window.times.len() - 1],
+        );
         if let Some(last) = seen.before.last_endpoint_ms {
             let near = seen.jump.is_none() && end - last < 90.0;
             let edge = seen.jump.is_none() && start == last + 2.0 * seen.settings.hop;
-            self.add_if(Kind::RereadUnmatched, near && seen.before.last_snapshot.is_some());
+            self.add_if(
+                Kind::RereadUnmatched,
+                near && seen.before.last_snapshot.is_some(),
+            );
             self.add_if(Kind::NoJumpAtTwoHops, edge);
         }
         let locked = snapshot.state == State::Locked;
         self.add_if(Kind::FarPast, locked && end > 9.99e11);
         self.add_if(Kind::FarBefore, locked && end < -9.99e11);
-        let loud = |energy: &f64| energy / 10.0 * 2.302_585_092_994_046 > 690.0;
+        let loud = |energy: &f64| energy / 10.0 * LN_OF_10 > 690.0;
         let infinite = seen.window.energies.iter().any(loud);
         self.add_if(Kind::InfinitePower, infinite && seen.settings.frames > 0);
     }
@@ -323,7 +319,10 @@ impl Kinds {
             return;
         }
         let margin = snapshot.diagnostics.dense_margin;
-        let (below, above) = ((0.059..0.06).contains(&margin), (0.06..0.061).contains(&margin));
+        let (below, above) = (
+            (0.059..0.06).contains(&margin),
+            (0.06..0.061).contains(&margin),
+        );
         let lone = candidates.len() == 1;
         self.add_if(Kind::LoneWeak, lone && margin < 0.06);
         self.add_if(Kind::LoneBelow, lone && below);
@@ -347,8 +346,14 @@ impl Kinds {
             Kind::PassingNoRecent,
             step.passes && spectral.recent_correlation < 0.15,
         );
-        self.add_if(Kind::SearchAt500, step.since_search == 500.0 && !step.supported);
-        self.add_if(Kind::SearchAt2000, step.since_search == 2_000.0 && step.supported);
+        self.add_if(
+            Kind::SearchAt500,
+            step.since_search == 500.0 && !step.supported,
+        );
+        self.add_if(
+            Kind::SearchAt2000,
+            step.since_search == 2_000.0 && step.supported,
+        );
         if let (Some(pending), Some(best)) = (step.before.pending, step.best) {
             self.pending(step, pending, best);
         }

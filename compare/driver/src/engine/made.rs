@@ -69,8 +69,14 @@ fn told(tally: &Tally) -> bool {
         ("refused 7", &tally.refused),
         ("state Confirmed", &tally.confirmed),
         ("confirmed overwritten by a chain's end", &tally.overwritten),
-        ("an endpoint without snapshot computed", &tally.without_snapshot),
-        ("a snapshot without endpoint computed", &tally.without_endpoint),
+        (
+            "an endpoint without snapshot computed",
+            &tally.without_snapshot,
+        ),
+        (
+            "a snapshot without endpoint computed",
+            &tally.without_endpoint,
+        ),
         ("eight candidates read again", &tally.eight),
         ("a made pending carried", &tally.carried),
         ("a made track supported", &tally.supported),
@@ -105,7 +111,10 @@ fn run(number: u64, tally: &Tally) -> Result<(), String> {
             tally.states.fetch_add(1, Relaxed);
         }
         let seen = both.submit(submission).map_err(|what| {
-            format!("{what}; session's family {}, submission {from} and on", session.family)
+            format!(
+                "{what}; session's family {}, submission {from} and on",
+                session.family
+            )
         })?;
         note(tally, &seen);
         if seen.code == 7 {
@@ -129,7 +138,10 @@ fn note(tally: &Tally, seen: &super::theirs::Seen) {
         return;
     };
     let computed = seen.code == COMPUTED;
-    add(&tally.confirmed, snapshot.state == State::Confirmed && computed);
+    add(
+        &tally.confirmed,
+        snapshot.state == State::Confirmed && computed,
+    );
     let overwritten = before.milestones[1].is_some()
         && before.milestones[2].is_none()
         && after.milestones[2].is_some();
@@ -140,7 +152,10 @@ fn note(tally: &Tally, seen: &super::theirs::Seen) {
         seen.jump.is_none() && end - last < 90.0
     });
     add(&tally.without_snapshot, computed && near && kept.is_none());
-    add(&tally.without_endpoint, computed && endpoint.is_none() && kept.is_some());
+    add(
+        &tally.without_endpoint,
+        computed && endpoint.is_none() && kept.is_some(),
+    );
     add(
         &tally.eight,
         !computed && snapshot.diagnostics.candidates.len() == MOST_CANDIDATES,

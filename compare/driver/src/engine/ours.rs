@@ -320,8 +320,7 @@ impl Ours {
         self.work64.clear();
         self.work64.resize(work[1], f64::NAN);
         self.snapshot.clear();
-        self.snapshot
-            .resize(words::SNAPSHOT + self.tail, OLD_WORD);
+        self.snapshot.resize(words::SNAPSHOT + self.tail, OLD_WORD);
     }
 
     /// What must be as it was, by the answer.
@@ -336,7 +335,10 @@ impl Ours {
         };
         held("the index", self.index.is(&self.opened))?;
         held("the state's tail", self.keeps_tail())?;
-        held("the snapshot's tail", old(&self.snapshot[words::SNAPSHOT..]))?;
+        held(
+            "the snapshot's tail",
+            old(&self.snapshot[words::SNAPSHOT..]),
+        )?;
         if code != COMPUTED {
             held("the state", self.state == before)?;
         }

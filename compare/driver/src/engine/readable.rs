@@ -1,9 +1,9 @@
 //! A session in lines, for whoever looks at a difference.
 
 use super::both::Both;
-use super::theirs::Seen;
 use super::kinds;
 use super::session::{Session, Submission};
+use super::theirs::Seen;
 use super::words::{self, place};
 use sonalign::types::Snapshot;
 
@@ -34,8 +34,11 @@ pub fn line(
     };
     let came = match answer {
         Ok(seen) => format!("both {}", told(seen)),
-        Err(what) => format!("DIFFERS: {what}\n    ours {}\n    Rust {}",
-            state(both.ours.words()), state(&both.theirs.state())),
+        Err(what) => format!(
+            "DIFFERS: {what}\n    ours {}\n    Rust {}",
+            state(both.ours.words()),
+            state(&both.theirs.state())
+        ),
     };
     format!(
         "  {number} {} [frames {frames}, {ends}, bands {}, clock {}, {:?}]\n    {came}\n",
@@ -43,12 +46,18 @@ pub fn line(
     )
 }
 
-pub fn told(seen: &Seen) -> String {
+fn told(seen: &Seen) -> String {
     let Some(snapshot) = &seen.snapshot else {
         return format!("refused {}", seen.code);
     };
-    let jump = seen.jump.map_or(String::new(), |jump| format!("jump {jump:?}, "));
-    let code = if seen.code == 0 { "computed" } else { "re-read" };
+    let jump = seen
+        .jump
+        .map_or(String::new(), |jump| format!("jump {jump:?}, "));
+    let code = if seen.code == 0 {
+        "computed"
+    } else {
+        "re-read"
+    };
     let track = |track: Option<[f64; 4]>| track.map_or("-".into(), |t| format!("{t:?}"));
     format!(
         "{jump}{code}, {}, pending {}, accepted {}, search {}; kinds {:?}",
@@ -88,7 +97,13 @@ fn shown(snapshot: &Snapshot) -> String {
 
 /// A state's words from the lock on, without the last snapshot's.
 fn state(words: &[u64]) -> String {
-    let shown = |word: usize| format!("{} {:?}", words::state_name(word), f64::from_bits(words[word]));
+    let shown = |word: usize| {
+        format!(
+            "{} {:?}",
+            words::state_name(word),
+            f64::from_bits(words[word])
+        )
+    };
     let all: Vec<String> = (place::PENDING..place::LAST_SNAPSHOT).map(shown).collect();
     all.join(", ")
 }

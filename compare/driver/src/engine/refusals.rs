@@ -73,8 +73,14 @@ fn lengths(tally: &mut Tally) {
             tally.differs(what);
         }
     };
-    note(tally, "words", ours::words() == [words::STATE, words::SNAPSHOT]);
-    let counts = [0, 1, 2, 3, 4, 5, 7, 8, 43, 1_023, 1_024, 1_025, 65_534, 65_535, 65_536];
+    note(
+        tally,
+        "words",
+        ours::words() == [words::STATE, words::SNAPSHOT],
+    );
+    let counts = [
+        0, 1, 2, 3, 4, 5, 7, 8, 43, 1_023, 1_024, 1_025, 65_534, 65_535, 65_536,
+    ];
     let huge = [usize::MAX, usize::MAX / 2 + 1, 1 << 32];
     for &frames in counts.iter().chain(&huge) {
         for bands in [0, 1, 2, 63, 64, 65, 1 << 60, usize::MAX] {
@@ -85,7 +91,11 @@ fn lengths(tally: &mut Tally) {
                 [0; 4]
             };
             let same = ours::index(frames, bands) == index;
-            note(tally, &format!("index lengths of {frames} and {bands}"), same);
+            note(
+                tally,
+                &format!("index lengths of {frames} and {bands}"),
+                same,
+            );
             for of in [0, 1, 40, 65_535, 65_536, usize::MAX] {
                 let work = match frames <= 1_024 && bands <= 64 {
                     false => [0; 2],
@@ -93,7 +103,11 @@ fn lengths(tally: &mut Tally) {
                 };
                 let expected = if of > 65_535 { [work[0], 0] } else { work };
                 let same = ours::work(frames, bands, of) == expected;
-                note(tally, &format!("work lengths of {frames}, {bands}, {of}"), same);
+                note(
+                    tally,
+                    &format!("work lengths of {frames}, {bands}, {of}"),
+                    same,
+                );
             }
         }
     }
@@ -188,25 +202,63 @@ fn called_opening(opening: &Opening, lent: [usize; 4]) -> Result<u32, String> {
 fn opening_faults() -> Vec<OpeningFault> {
     let fault = |number, name, make| OpeningFault { number, name, make };
     vec![
-        fault(1, "readiness 0", |o| o.configuration.minimum_readiness_duration_ms = 0.0),
-        fault(1, "readiness -0", |o| o.configuration.minimum_readiness_duration_ms = -0.0),
-        fault(1, "readiness below 0", |o| o.configuration.minimum_readiness_duration_ms = -5e-324),
-        fault(1, "readiness infinite", |o| o.configuration.minimum_readiness_duration_ms = f64::INFINITY),
-        fault(1, "readiness NaN", |o| o.configuration.minimum_readiness_duration_ms = f64::NAN),
-        fault(1, "tracking 0", |o| o.configuration.tracking_query_duration_ms = 0.0),
-        fault(1, "tracking -0", |o| o.configuration.tracking_query_duration_ms = -0.0),
-        fault(1, "tracking infinite", |o| o.configuration.tracking_query_duration_ms = f64::INFINITY),
-        fault(1, "tracking NaN", |o| o.configuration.tracking_query_duration_ms = f64::NAN),
-        fault(1, "active energy NaN", |o| o.configuration.minimum_active_frame_energy_dbfs = f64::NAN),
-        fault(1, "active energy infinite", |o| o.configuration.minimum_active_frame_energy_dbfs = f64::INFINITY),
-        fault(1, "active energy -infinite", |o| o.configuration.minimum_active_frame_energy_dbfs = f64::NEG_INFINITY),
-        fault(1, "average energy NaN", |o| o.configuration.minimum_average_energy_dbfs = f64::NAN),
-        fault(1, "average energy infinite", |o| o.configuration.minimum_average_energy_dbfs = f64::INFINITY),
-        fault(1, "average energy -infinite", |o| o.configuration.minimum_average_energy_dbfs = f64::NEG_INFINITY),
-        fault(1, "fraction below 0", |o| o.configuration.minimum_active_frame_fraction = -5e-324),
-        fault(1, "fraction above 1", |o| o.configuration.minimum_active_frame_fraction = 1.0_f64.next_up()),
-        fault(1, "fraction NaN", |o| o.configuration.minimum_active_frame_fraction = f64::NAN),
-        fault(1, "fraction infinite", |o| o.configuration.minimum_active_frame_fraction = f64::INFINITY),
+        fault(1, "readiness 0", |o| {
+            o.configuration.minimum_readiness_duration_ms = 0.0
+        }),
+        fault(1, "readiness -0", |o| {
+            o.configuration.minimum_readiness_duration_ms = -0.0
+        }),
+        fault(1, "readiness below 0", |o| {
+            o.configuration.minimum_readiness_duration_ms = -5e-324
+        }),
+        fault(1, "readiness infinite", |o| {
+            o.configuration.minimum_readiness_duration_ms = f64::INFINITY
+        }),
+        fault(1, "readiness NaN", |o| {
+            o.configuration.minimum_readiness_duration_ms = f64::NAN
+        }),
+        fault(1, "tracking 0", |o| {
+            o.configuration.tracking_query_duration_ms = 0.0
+        }),
+        fault(1, "tracking -0", |o| {
+            o.configuration.tracking_query_duration_ms = -0.0
+        }),
+        fault(1, "tracking infinite", |o| {
+            o.configuration.tracking_query_duration_ms = f64::INFINITY
+        }),
+        fault(1, "tracking NaN", |o| {
+            o.configuration.tracking_query_duration_ms = f64::NAN
+        }),
+        fault(1, "active energy NaN", |o| {
+            o.configuration.minimum_active_frame_energy_dbfs = f64::NAN
+        }),
+        fault(1, "active energy infinite", |o| {
+            o.configuration.minimum_active_frame_energy_dbfs = f64::INFINITY
+        }),
+        fault(1, "active energy -infinite", |o| {
+            o.configuration.minimum_active_frame_energy_dbfs = f64::NEG_INFINITY
+        }),
+        fault(1, "average energy NaN", |o| {
+            o.configuration.minimum_average_energy_dbfs = f64::NAN
+        }),
+        fault(1, "average energy infinite", |o| {
+            o.configuration.minimum_average_energy_dbfs = f64::INFINITY
+        }),
+        fault(1, "average energy -infinite", |o| {
+            o.configuration.minimum_average_energy_dbfs = f64::NEG_INFINITY
+        }),
+        fault(1, "fraction below 0", |o| {
+            o.configuration.minimum_active_frame_fraction = -5e-324
+        }),
+        fault(1, "fraction above 1", |o| {
+            o.configuration.minimum_active_frame_fraction = 1.0_f64.next_up()
+        }),
+        fault(1, "fraction NaN", |o| {
+            o.configuration.minimum_active_frame_fraction = f64::NAN
+        }),
+        fault(1, "fraction infinite", |o| {
+            o.configuration.minimum_active_frame_fraction = f64::INFINITY
+        }),
         fault(2, "hop below 1", |o| o.hop = 1.0_f64.next_down()),
         fault(2, "hop above 1,000", |o| o.hop = 1_000.0_f64.next_up()),
         fault(2, "hop NaN", |o| o.hop = f64::NAN),
@@ -216,14 +268,20 @@ fn opening_faults() -> Vec<OpeningFault> {
         fault(3, "65,536 frames", |o| resize(&mut o.reference, 65_536, 1)),
         fault(3, "65 bands", |o| resize(&mut o.reference, 30, 65)),
         fault(3, "bands without end", |o| o.reference.bands = usize::MAX),
-        fault(3, "bands whose product wraps", |o| o.reference.bands = usize::MAX / 30 + 1),
+        fault(3, "bands whose product wraps", |o| {
+            o.reference.bands = usize::MAX / 30 + 1
+        }),
         fault(4, "a value too few", |o| {
             o.reference.values.pop();
         }),
         fault(4, "a value too many", |o| o.reference.values.push(1.0)),
         fault(4, "no values", |o| o.reference.values.clear()),
-        fault(5, "a time past 10^12", |o| o.reference.times[1] = 1e12_f64.next_up()),
-        fault(5, "a time before -10^12", |o| o.reference.times[0] = (-1e12_f64).next_down()),
+        fault(5, "a time past 10^12", |o| {
+            o.reference.times[1] = 1e12_f64.next_up()
+        }),
+        fault(5, "a time before -10^12", |o| {
+            o.reference.times[0] = (-1e12_f64).next_down()
+        }),
         fault(5, "the last time far", |o| {
             if let Some(last) = o.reference.times.last_mut() {
                 *last = f64::MAX;
@@ -269,9 +327,15 @@ fn opening_limits() -> Vec<OpeningLimit> {
             o.configuration.minimum_active_frame_energy_dbfs = -f64::MAX;
             o.configuration.minimum_average_energy_dbfs = f64::MAX;
         }),
-        ("fraction 0", |o| o.configuration.minimum_active_frame_fraction = 0.0),
-        ("fraction -0", |o| o.configuration.minimum_active_frame_fraction = -0.0),
-        ("fraction 1", |o| o.configuration.minimum_active_frame_fraction = 1.0),
+        ("fraction 0", |o| {
+            o.configuration.minimum_active_frame_fraction = 0.0
+        }),
+        ("fraction -0", |o| {
+            o.configuration.minimum_active_frame_fraction = -0.0
+        }),
+        ("fraction 1", |o| {
+            o.configuration.minimum_active_frame_fraction = 1.0
+        }),
         ("hop 1", |o| o.hop = 1.0),
         ("hop 1,000", |o| o.hop = 1_000.0),
         ("65,535 frames", |o| resize(&mut o.reference, 65_535, 1)),
@@ -293,12 +357,18 @@ fn opening_limits() -> Vec<OpeningLimit> {
             o.reference.times = regular(-1e12, 250.0, 30);
         }),
         ("a time that is NaN", |o| o.reference.times[3] = f64::NAN),
-        ("a time that is infinite", |o| o.reference.times[0] = f64::INFINITY),
-        ("a time that is -infinite", |o| o.reference.times[29] = f64::NEG_INFINITY),
+        ("a time that is infinite", |o| {
+            o.reference.times[0] = f64::INFINITY
+        }),
+        ("a time that is -infinite", |o| {
+            o.reference.times[29] = f64::NEG_INFINITY
+        }),
         ("a value below 0", |o| o.reference.values[4] = -1e-45),
         ("a value of -0", |o| o.reference.values[4] = -0.0),
         ("a value that is NaN", |o| o.reference.values[59] = f32::NAN),
-        ("a value that is infinite", |o| o.reference.values[0] = f32::INFINITY),
+        ("a value that is infinite", |o| {
+            o.reference.values[0] = f32::INFINITY
+        }),
         ("values at their ends", |o| {
             o.reference.values[0] = f32::MAX;
             o.reference.values[1] = 1e-45;
@@ -342,7 +412,13 @@ fn submissions(tally: &mut Tally) {
         attempt(tally, &ground, "nothing wrong", &ground.trial, expected);
         for fault in &faults {
             let trial = with(&ground.trial, &[fault]);
-            attempt(tally, &ground, &fault.name, &trial, fault_number(&ground, fault));
+            attempt(
+                tally,
+                &ground,
+                &fault.name,
+                &trial,
+                fault_number(&ground, fault),
+            );
         }
         for (at, first) in faults.iter().enumerate() {
             for second in &faults[at + 1..] {
@@ -371,7 +447,11 @@ fn fault_number(ground: &Ground, fault: &Fault) -> u32 {
 
 fn pair(tally: &mut Tally, ground: &Ground, first: &Fault, second: &Fault) {
     let trial = with(&ground.trial, &[first, second]);
-    let place = |number: u32| [7, 6, 8, 9, 10, 11, 12, 13].iter().position(|&n| n == number);
+    let place = |number: u32| {
+        [7, 6, 8, 9, 10, 11, 12, 13]
+            .iter()
+            .position(|&n| n == number)
+    };
     let mut numbers = [first.number, second.number];
     numbers.sort_by_key(|&number| place(number));
     let without_index = ground.trial.settings.frames == 0;
@@ -589,8 +669,12 @@ fn faults() -> Vec<Fault> {
         t.window.energies.clear();
         t.window.values.clear();
     }));
-    faults.push(fault(9, "no frames, yet values", |t| t.window.times.clear()));
-    faults.push(fault(10, "1,025 frames", |t| stretch(&mut t.window, 1_025, 2)));
+    faults.push(fault(9, "no frames, yet values", |t| {
+        t.window.times.clear()
+    }));
+    faults.push(fault(10, "1,025 frames", |t| {
+        stretch(&mut t.window, 1_025, 2)
+    }));
     faults.push(of_bands(fault(10, "65 bands", |t| {
         let frames = t.window.times.len();
         stretch(&mut t.window, frames, 65);
@@ -605,7 +689,9 @@ fn faults() -> Vec<Fault> {
     faults.push(fault(11, "an energy too few", |t| {
         t.window.energies.pop();
     }));
-    faults.push(fault(11, "an energy too many", |t| t.window.energies.push(-20.0)));
+    faults.push(fault(11, "an energy too many", |t| {
+        t.window.energies.push(-20.0)
+    }));
     faults.push(fault(11, "a value too few", |t| {
         t.window.values.pop();
     }));
@@ -617,7 +703,12 @@ fn faults() -> Vec<Fault> {
             }
         }));
     }
-    for time in [f64::NAN, f64::INFINITY, 1e12_f64.next_up(), (-1e12_f64).next_down()] {
+    for time in [
+        f64::NAN,
+        f64::INFINITY,
+        1e12_f64.next_up(),
+        (-1e12_f64).next_down(),
+    ] {
         faults.push(fault(12, "the first time", move |t| {
             if let Some(first) = t.window.times.first_mut() {
                 *first = time;
@@ -636,8 +727,12 @@ fn faults() -> Vec<Fault> {
             }
         }));
     }
-    faults.push(fault(13, "narrow working buffer one short", |t| t.work_short = Some(0)));
-    faults.push(fault(13, "wide working buffer one short", |t| t.work_short = Some(1)));
+    faults.push(fault(13, "narrow working buffer one short", |t| {
+        t.work_short = Some(0)
+    }));
+    faults.push(fault(13, "wide working buffer one short", |t| {
+        t.work_short = Some(1)
+    }));
     faults
 }
 
@@ -653,13 +748,25 @@ fn stretch(window: &mut Window, frames: usize, bands: usize) {
 fn state_faults() -> Vec<Fault> {
     let mut faults = vec![
         fault(7, "hop below 1", |t| t.settings.hop = 1.0_f64.next_down()),
-        fault(7, "hop above 1,000", |t| t.settings.hop = 1_000.0_f64.next_up()),
+        fault(7, "hop above 1,000", |t| {
+            t.settings.hop = 1_000.0_f64.next_up()
+        }),
         fault(7, "hop NaN", |t| t.settings.hop = f64::NAN),
-        fault(7, "readiness 0", |t| t.settings.configuration.minimum_readiness_duration_ms = 0.0),
-        fault(7, "tracking -0", |t| t.settings.configuration.tracking_query_duration_ms = -0.0),
-        fault(7, "active NaN", |t| t.settings.configuration.minimum_active_frame_energy_dbfs = f64::NAN),
-        fault(7, "average infinite", |t| t.settings.configuration.minimum_average_energy_dbfs = f64::INFINITY),
-        fault(7, "fraction above 1", |t| t.settings.configuration.minimum_active_frame_fraction = 1.0_f64.next_up()),
+        fault(7, "readiness 0", |t| {
+            t.settings.configuration.minimum_readiness_duration_ms = 0.0
+        }),
+        fault(7, "tracking -0", |t| {
+            t.settings.configuration.tracking_query_duration_ms = -0.0
+        }),
+        fault(7, "active NaN", |t| {
+            t.settings.configuration.minimum_active_frame_energy_dbfs = f64::NAN
+        }),
+        fault(7, "average infinite", |t| {
+            t.settings.configuration.minimum_average_energy_dbfs = f64::INFINITY
+        }),
+        fault(7, "fraction above 1", |t| {
+            t.settings.configuration.minimum_active_frame_fraction = 1.0_f64.next_up()
+        }),
         fault(7, "65 bands in the state", |t| {
             t.settings.bands = 65;
             t.settings.frames = 20;
@@ -678,16 +785,28 @@ fn state_faults() -> Vec<Fault> {
             t.kept.last_snapshot = Some(snapshot);
         }),
     ];
-    for time in [f64::NAN, f64::INFINITY, f64::NEG_INFINITY, 1e12_f64.next_up(), (-1e12_f64).next_down()] {
+    for time in [
+        f64::NAN,
+        f64::INFINITY,
+        f64::NEG_INFINITY,
+        1e12_f64.next_up(),
+        (-1e12_f64).next_down(),
+    ] {
         faults.push(fault(7, "start", move |t| t.settings.start = time));
-        faults.push(fault(7, "endpoint", move |t| t.kept.last_endpoint_ms = Some(time)));
+        faults.push(fault(7, "endpoint", move |t| {
+            t.kept.last_endpoint_ms = Some(time)
+        }));
         if time != f64::NEG_INFINITY {
-            faults.push(fault(7, "search time", move |t| t.kept.last_global_search_ms = time));
+            faults.push(fault(7, "search time", move |t| {
+                t.kept.last_global_search_ms = time
+            }));
         }
     }
     for reading in [f64::NAN, f64::INFINITY, f64::NEG_INFINITY] {
         for which in 0..3 {
-            faults.push(fault(7, "milestone", move |t| t.kept.milestones[which] = Some(reading)));
+            faults.push(fault(7, "milestone", move |t| {
+                t.kept.milestones[which] = Some(reading)
+            }));
             faults.push(fault(7, "last snapshot's milestone", move |t| {
                 let mut snapshot = blank(&t.kept);
                 let all = [
@@ -704,10 +823,19 @@ fn state_faults() -> Vec<Fault> {
             }));
         }
     }
-    for number in [f64::NAN, f64::INFINITY, 1e13_f64.next_up(), (-1e13_f64).next_down()] {
+    for number in [
+        f64::NAN,
+        f64::INFINITY,
+        1e13_f64.next_up(),
+        (-1e13_f64).next_down(),
+    ] {
         for which in 0..4 {
-            faults.push(fault(7, "pending", move |t| t.kept.pending = Some(track(which, number))));
-            faults.push(fault(7, "accepted", move |t| t.kept.accepted = Some(track(which, number))));
+            faults.push(fault(7, "pending", move |t| {
+                t.kept.pending = Some(track(which, number))
+            }));
+            faults.push(fault(7, "accepted", move |t| {
+                t.kept.accepted = Some(track(which, number))
+            }));
         }
         for which in 0..3 {
             faults.push(fault(7, "estimate", move |t| {
@@ -760,15 +888,33 @@ fn limits() -> Vec<Limit> {
     vec![
         ("start of 10^12", |t| t.settings.start = 1e12),
         ("start of -10^12", |t| t.settings.start = -1e12),
-        ("endpoint of 10^12", |t| t.kept.last_endpoint_ms = Some(1e12)),
-        ("endpoint of -10^12", |t| t.kept.last_endpoint_ms = Some(-1e12)),
-        ("search time of 10^12", |t| t.kept.last_global_search_ms = 1e12),
-        ("search time of -10^12", |t| t.kept.last_global_search_ms = -1e12),
-        ("search time of -infinity", |t| t.kept.last_global_search_ms = f64::NEG_INFINITY),
-        ("milestones of 10^300", |t| t.kept.milestones = [Some(1e300); 3]),
-        ("milestones at the ends", |t| t.kept.milestones = [Some(f64::MAX), Some(-f64::MAX), None]),
-        ("pending of 10^13", |t| t.kept.pending = Some([1e13, -1e13, 1e13, -1e13])),
-        ("accepted of 10^13", |t| t.kept.accepted = Some([-1e13, 1e13, 1e13, 1e13])),
+        ("endpoint of 10^12", |t| {
+            t.kept.last_endpoint_ms = Some(1e12)
+        }),
+        ("endpoint of -10^12", |t| {
+            t.kept.last_endpoint_ms = Some(-1e12)
+        }),
+        ("search time of 10^12", |t| {
+            t.kept.last_global_search_ms = 1e12
+        }),
+        ("search time of -10^12", |t| {
+            t.kept.last_global_search_ms = -1e12
+        }),
+        ("search time of -infinity", |t| {
+            t.kept.last_global_search_ms = f64::NEG_INFINITY
+        }),
+        ("milestones of 10^300", |t| {
+            t.kept.milestones = [Some(1e300); 3]
+        }),
+        ("milestones at the ends", |t| {
+            t.kept.milestones = [Some(f64::MAX), Some(-f64::MAX), None]
+        }),
+        ("pending of 10^13", |t| {
+            t.kept.pending = Some([1e13, -1e13, 1e13, -1e13])
+        }),
+        ("accepted of 10^13", |t| {
+            t.kept.accepted = Some([-1e13, 1e13, 1e13, 1e13])
+        }),
         ("an estimate of 10^13", |t| {
             let mut snapshot = blank(&t.kept);
             snapshot.estimate = Some(Estimate {
@@ -815,8 +961,12 @@ fn limits() -> Vec<Limit> {
         ("the largest value", |t| t.window.values[0] = f32::MAX),
         ("times of 10^12", |t| t.window.times.fill(1e12)),
         ("times of -10^12", |t| t.window.times.fill(-1e12)),
-        ("energies of -infinity", |t| t.window.energies.fill(f64::NEG_INFINITY)),
-        ("energies at their ends", |t| t.window.energies.fill(f64::MAX)),
+        ("energies of -infinity", |t| {
+            t.window.energies.fill(f64::NEG_INFINITY)
+        }),
+        ("energies at their ends", |t| {
+            t.window.energies.fill(f64::MAX)
+        }),
         ("the largest clock", |t| t.clock = f64::MAX),
         ("the least clock", |t| t.clock = -f64::MAX),
     ]
@@ -853,7 +1003,11 @@ fn short_words(tally: &mut Tally) {
         }
         let state = words::state(&ground.trial.settings, &ground.trial.kept);
         let (code, age) = ours::support_age(&state[..words::STATE - 1], OLD);
-        tally.note("support age, words", WORDS_TOO_SHORT, untouched(code, age == OLD));
+        tally.note(
+            "support age, words",
+            WORDS_TOO_SHORT,
+            untouched(code, age == OLD),
+        );
         for layout in [0, 2, u64::MAX] {
             other_layout(tally, &ground, layout);
         }
@@ -867,7 +1021,12 @@ fn untouched(code: u32, kept: bool) -> Result<u32, String> {
     }
 }
 
-fn short_submission(ground: &Ground, clock: f64, state: usize, snapshot: usize) -> Result<u32, String> {
+fn short_submission(
+    ground: &Ground,
+    clock: f64,
+    state: usize,
+    snapshot: usize,
+) -> Result<u32, String> {
     let (lengths, work) = lent(&ground.trial);
     let mut words = words::state(&ground.trial.settings, &ground.trial.kept);
     words.truncate(state);
@@ -909,5 +1068,9 @@ fn other_layout(tally: &mut Tally, ground: &Ground, layout: u64) {
     let kept = state == before && shown.iter().all(|&word| word == OLD_WORD);
     tally.note("submission, another layout", 7, untouched(code, kept));
     let (code, age) = ours::support_age(&state, OLD);
-    tally.note("support age, another layout", 7, untouched(code, age == OLD));
+    tally.note(
+        "support age, another layout",
+        7,
+        untouched(code, age == OLD),
+    );
 }

@@ -3,7 +3,9 @@
 
 use super::ours::{COMPUTED, REREAD};
 use super::reading::{self, Handed, Jump};
-use super::session::{index_lengths, lent_index, work_lengths, Lent, Opening, Settings, Submission};
+use super::session::{
+    index_lengths, lent_index, work_lengths, Lent, Opening, Settings, Submission,
+};
 use super::words;
 use crate::sessions::record::{feature_window, reference_frames};
 use crate::sessions::session::Window;

@@ -180,9 +180,7 @@ impl Scene {
                 };
                 let clean = match (at(frame), at(frame + 1.0)) {
                     (Some(value), _) if part == 0.0 => value,
-                    (Some(left), Some(right)) => {
-                        left * (1.0 - part as f32) + right * part as f32
-                    }
+                    (Some(left), Some(right)) => left * (1.0 - part as f32) + right * part as f32,
                     _ => noise(&mut self.random),
                 };
                 values.push(self.worn(clean));

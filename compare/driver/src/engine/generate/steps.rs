@@ -50,7 +50,12 @@ fn advance(scene: &mut Scene) {
 fn listen(scene: &mut Scene) {
     advance(scene);
     if scene.is_past_the_end() && !scene.random.one_in(4) {
-        let room = scene.opening.reference.times.len().saturating_sub(scene.frames);
+        let room = scene
+            .opening
+            .reference
+            .times
+            .len()
+            .saturating_sub(scene.frames);
         let place = scene.random.below(room / 2 + 1) as f64;
         scene.go_to(place);
     }
@@ -224,7 +229,9 @@ fn jump_back(scene: &mut Scene) {
 /// Two hops past the last endpoint are not a jump yet.
 fn jump_on(scene: &mut Scene) {
     let hop = scene.hop();
-    let ms = scene.random.one_of(&[0.0, 0.0, 0.001, 1.0, 500.0, 60_000.0]);
+    let ms = scene
+        .random
+        .one_of(&[0.0, 0.0, 0.001, 1.0, 500.0, 60_000.0]);
     let frames = match scene.random.below(3) {
         0 => 3,
         _ => scene.frames,
@@ -254,7 +261,11 @@ pub fn refused(scene: &mut Scene) {
     match scene.random.below(16) {
         0 => lent = Lent::ShortIndex(scene.random.below(4)),
         1 => lent = Lent::SpoiltState,
-        2 => clock = scene.random.one_of(&[f64::NAN, f64::INFINITY, f64::NEG_INFINITY]),
+        2 => {
+            clock = scene
+                .random
+                .one_of(&[f64::NAN, f64::INFINITY, f64::NEG_INFINITY])
+        }
         3 => window = no_frames(window.bands),
         4 => window = long(scene),
         5 => window.bands = 65,
