@@ -19,6 +19,7 @@ const USAGE: &str = "\
 usage: run [--quick | --bench | --list | --matcher-list | --sessions | --samples]
        run --engine [--quick]
        run --session NUMBER
+       run --mutants
        run --repeat (whole | local | opening) (ours | replaced | own)";
 
 fn main() -> ExitCode {
@@ -29,6 +30,8 @@ fn main() -> ExitCode {
         ["--quick"] => verdict(check(Effort::QUICK)),
         ["--engine"] => verdict(engine::check::check(Effort::full())),
         ["--engine", "--quick"] => verdict(engine::check::check(Effort::QUICK)),
+        #[cfg(feature = "mutants")]
+        ["--mutants"] => print_mutants(),
         ["--session", number] => match number.parse() {
             Ok(number) => print(&engine::check::shown(number)),
             Err(_) => usage(),
@@ -68,6 +71,17 @@ fn verdict(same: bool) -> ExitCode {
         ExitCode::SUCCESS
     } else {
         println!("there are differences");
+        ExitCode::FAILURE
+    }
+}
+
+#[cfg(feature = "mutants")]
+fn print_mutants() -> ExitCode {
+    let (table, all) = engine::mutants::table(Effort::full());
+    let printed = print(&table);
+    if all {
+        printed
+    } else {
         ExitCode::FAILURE
     }
 }

@@ -7,7 +7,7 @@ use super::session::{Lent, Opening, Settings, Submission};
 use super::theirs::{Seen, Theirs};
 use super::words::{self, place};
 use crate::value::{same, Value};
-use sonalign::running::{self, Kept};
+use sonalign::running::{self, Kept, Open};
 
 pub struct Both {
     pub ours: Ours,
@@ -22,6 +22,11 @@ pub enum Opened {
 impl Both {
     /// Buffers are longer by `tail` than they need be. An error says what differs.
     pub fn open(opening: &Opening, tail: usize) -> Result<Opened, String> {
+        Self::open_with(running::open, opening, tail)
+    }
+
+    /// With another build of the Rust.
+    pub fn open_with(open: Open, opening: &Opening, tail: usize) -> Result<Opened, String> {
         let (code, ours) = Ours::open(opening, tail);
         let expected = reading::opening_refusal(opening, ours.index.lengths()).unwrap_or(0);
         if code != expected {
@@ -31,7 +36,7 @@ impl Both {
             untouched(&ours)?;
             return Ok(Opened::Refused(code));
         }
-        let theirs = Theirs::open(running::open, opening, tail);
+        let theirs = Theirs::open(open, opening, tail);
         if theirs.is_indexed() != reading::is_accepted(opening) {
             return Err("the Rust and document 01 do not accept the same reference".into());
         }

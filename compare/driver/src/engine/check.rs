@@ -13,6 +13,8 @@ use std::thread;
 
 const PRINTED: u64 = 20;
 
+pub const QUICK_SESSIONS: u64 = 6_144;
+
 struct Tally {
     counts: Counts,
     submissions: AtomicU64,
@@ -30,7 +32,7 @@ pub fn check(effort: Effort) -> bool {
 }
 
 fn sessions(effort: Effort) -> bool {
-    let count = effort.pick(6_144, 49_152);
+    let count = effort.pick(QUICK_SESSIONS, 49_152);
     let tally = Tally {
         counts: Counts::new(),
         submissions: AtomicU64::new(0),

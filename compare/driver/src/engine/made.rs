@@ -9,7 +9,7 @@ use super::words::{MOST_CANDIDATES, PHASES, REASONS, STAGES, STATES};
 use crate::compare::Effort;
 use crate::family::pattern;
 use crate::random::Random;
-use sonalign::running::{Kept, Track};
+use sonalign::running::{self, Kept, Open, Track};
 use sonalign::types::{
     CandidateDiagnostics, Diagnostics, Estimate, Snapshot, SpectralDiagnostics, State,
 };
@@ -17,6 +17,8 @@ use std::sync::atomic::{AtomicU64, Ordering::Relaxed};
 use std::thread;
 
 const PRINTED: u64 = 20;
+
+pub const QUICK_STATES: u64 = 3_000;
 
 /// What made states came to. All of it has to be reached.
 #[derive(Default)]
@@ -35,7 +37,7 @@ struct Tally {
 }
 
 pub fn check(effort: Effort) -> bool {
-    let count = effort.pick(3_000, 60_000);
+    let count = effort.pick(QUICK_STATES, 60_000);
     let tally = Tally::default();
     let next = AtomicU64::new(0);
     let work = || loop {
@@ -43,7 +45,7 @@ pub fn check(effort: Effort) -> bool {
         if number >= count {
             return;
         }
-        if let Err(what) = run(number, &tally) {
+        if let Err(what) = run(running::open, number, &tally) {
             if tally.differences.fetch_add(1, Relaxed) < PRINTED {
                 println!("made state {number}: {what}");
             }
@@ -89,13 +91,19 @@ fn told(tally: &Tally) -> bool {
     differences == 0 && reached.iter().all(|(_, count)| read(count) > 0)
 }
 
+/// Of another build of the Rust beside the port.
+#[cfg(feature = "mutants")]
+pub fn run_with(open: Open, number: u64) -> Result<(), String> {
+    run(open, number, &Tally::default())
+}
+
 /// A session's beginning, then a made state, then the rest of the session.
-fn run(number: u64, tally: &Tally) -> Result<(), String> {
+fn run(open: Open, number: u64, tally: &Tally) -> Result<(), String> {
     let mut random = Random::new(pattern(number ^ 0x003a_de00));
     // Those that listen, without the largest.
     let family = random.below(17) as u64;
     let session = generate::session(random.below(2_000) as u64 * 24 + family);
-    let Opened::Opened(mut both) = Both::open(&session.opening, 3)? else {
+    let Opened::Opened(mut both) = Both::open_with(open, &session.opening, 3)? else {
         return Ok(());
     };
     let from = random.below(session.submissions.len().max(1));

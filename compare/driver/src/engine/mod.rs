@@ -7,6 +7,8 @@ pub mod check;
 mod generate;
 mod kinds;
 mod made;
+#[cfg(feature = "mutants")]
+pub mod mutants;
 mod ours;
 mod readable;
 mod reading;
