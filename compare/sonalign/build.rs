@@ -1,171 +1,26 @@
-//! Makes the comparison build: reads types.rs, matcher.rs and engine.rs, edits them and writes them
-//! to OUT_DIR, where lib.rs includes them; beside them, in own/, matcher.rs with its own functions.
-//! Every edit says how often it matches, so that another source than the expected one stops the
-//! build and is not compared half edited.
+//! Makes the comparison build: edits types.rs, matcher.rs and engine.rs and writes them to OUT_DIR,
+//! where lib.rs includes them; beside them, in own/, matcher.rs and engine.rs with their own
+//! functions.
 
+mod edits;
+
+use edits::{read, variable, write, File, SOURCE};
 use std::path::{Path, PathBuf};
-use std::{env, fs, process};
-
-const SOURCE: &str = "KISTOVAB_RUST_SRC";
 
 fn main() {
     println!("cargo::rerun-if-env-changed={SOURCE}");
     println!("cargo::rerun-if-changed=build.rs");
-    let from = source_folder();
+    println!("cargo::rerun-if-changed=edits.rs");
     let to = PathBuf::from(variable("OUT_DIR"));
-    make(&from, &to, "types.rs", types);
-    make(&from, &to, "matcher.rs", matcher);
-    make(&from, &to, "engine.rs", engine);
-    make(&from, &to.join("own"), "matcher.rs", own_matcher);
+    make(&to, "types.rs", edits::types);
+    make(&to, "matcher.rs", edits::matcher);
+    make(&to, "engine.rs", edits::engine);
+    make(&to.join("own"), "matcher.rs", edits::own_matcher);
+    make(&to.join("own"), "engine.rs", edits::own_engine);
 }
 
-fn types(file: &mut File) {
-    file.replace(1, "use serde::{Deserialize, Serialize};\n", "");
-    file.replace(11, ", Serialize, Deserialize)]", ")]");
-    file.remove_lines(22, "#[serde(");
-    file.replace(3, "pub(crate) ", "pub ");
-    file.lacks("serde");
-    file.lacks("Serialize");
-}
-
-fn matcher(file: &mut File) {
-    file.replace(
-        1,
-        "frame.pcen_mel[band].ln_1p()",
-        "crate::replaced::ln_1p(frame.pcen_mel[band])",
-    );
-    file.lacks_functions();
-    open_matcher(file);
-}
-
-/// The same but for the function that it calls.
-fn own_matcher(file: &mut File) {
-    file.has(1, "frame.pcen_mel[band].ln_1p()");
-    open_matcher(file);
-}
-
-fn open_matcher(file: &mut File) {
-    file.replace(14, "pub(crate) ", "pub ");
-    file.replace(1, "\nstruct Bands {", "\npub struct Bands {");
-    file.open_fields("pub struct Bands {", 2);
-    file.open_fields("pub struct SpectralMatcher {", 5);
-    file.replace(2, "\n    const ", "\n    pub const ");
-    file.replace(4, "\n    fn ", "\n    pub fn ");
-    file.replace(6, "\nfn ", "\npub fn ");
-}
-
-fn engine(file: &mut File) {
-    file.replace(
-        1,
-        "(-dt / 300.0).exp()",
-        "crate::replaced::exp(-dt / 300.0)",
-    );
-    file.replace(
-        1,
-        "10.0_f64.powf(frame.energy_dbfs / 10.0)",
-        "crate::replaced::ten_to(frame.energy_dbfs / 10.0)",
-    );
-    file.replace(
-        1,
-        "mean_power.log10()",
-        "crate::replaced::log10(mean_power)",
-    );
-    file.replace(1, "\nstruct Hypothesis {", "\npub struct Hypothesis {");
-    file.open_fields("pub struct Hypothesis {", 4);
-    file.open_fields("pub struct Engine {", 11);
-    file.replace(2, "\n    fn ", "\n    pub fn ");
-    file.replace(1, "\nfn ", "\npub fn ");
-    file.lacks_functions();
-}
-
-fn make(from: &Path, to: &Path, name: &'static str, edit: fn(&mut File)) {
-    let path = from.join("src").join(name);
-    println!("cargo::rerun-if-changed={}", path.display());
-    let Ok(text) = fs::read_to_string(&path) else {
-        fail(&format!(
-            "no Rust source at {}: set {SOURCE} to the folder that has src/{name}",
-            path.display()
-        ))
-    };
-    let mut file = File { name, text };
+fn make(to: &Path, name: &'static str, edit: fn(&mut File)) {
+    let mut file = read(name);
     edit(&mut file);
-    let written = fs::create_dir_all(to).and_then(|()| fs::write(to.join(name), file.text));
-    if let Err(error) = written {
-        fail(&format!("{name} cannot be written: {error}"));
-    }
-}
-
-/// The folder with src/types.rs and the others: the one given, or shared/docs/src beside the
-/// repository.
-fn source_folder() -> PathBuf {
-    match env::var_os(SOURCE) {
-        Some(folder) if !folder.is_empty() => PathBuf::from(folder),
-        _ => Path::new(&variable("CARGO_MANIFEST_DIR")).join("../../../shared/docs/src"),
-    }
-}
-
-fn variable(name: &str) -> String {
-    env::var(name).unwrap_or_else(|_| fail(&format!("cargo did not set {name}")))
-}
-
-/// The logged error fails the build, with fewer lines around it than a failing script gets.
-fn fail(message: &str) -> ! {
-    println!("cargo::error={message}");
-    process::exit(0)
-}
-
-struct File {
-    name: &'static str,
-    text: String,
-}
-
-impl File {
-    fn expect(&self, edit: &str, times: usize, found: usize) {
-        if found != times {
-            fail(&format!(
-                "{}: {edit:?} matches {found} times, not {times}",
-                self.name
-            ));
-        }
-    }
-
-    fn replace(&mut self, times: usize, old: &str, new: &str) {
-        self.expect(old, times, self.text.matches(old).count());
-        self.text = self.text.replace(old, new);
-    }
-
-    fn remove_lines(&mut self, times: usize, beginning: &str) {
-        let goes = |line: &&str| line.trim_start().starts_with(beginning);
-        self.expect(beginning, times, self.text.lines().filter(goes).count());
-        let kept = self.text.split_inclusive('\n').filter(|line| !goes(line));
-        self.text = kept.collect();
-    }
-
-    /// Makes the fields of the struct that `head` begins public.
-    fn open_fields(&mut self, head: &str, times: usize) {
-        self.expect(head, 1, self.text.matches(head).count());
-        let (before, rest) = self.text.split_once(head).unwrap_or_default();
-        let (fields, after) = rest.split_once("\n}").unwrap_or((rest, ""));
-        self.expect(head, times, fields.matches("\n    ").count());
-        let fields = fields.replace("\n    ", "\n    pub ");
-        self.text = format!("{before}{head}{fields}\n}}{after}");
-    }
-
-    fn has(&self, times: usize, text: &str) {
-        self.expect(text, times, self.text.matches(text).count());
-    }
-
-    fn lacks(&self, text: &str) {
-        self.has(0, text);
-    }
-
-    /// None of the replaced functions is left, nor a relative of theirs.
-    fn lacks_functions(&self) {
-        for name in [".exp(", ".exp2(", ".exp_m1(", ".powf(", ".powi("] {
-            self.lacks(name);
-        }
-        for name in [".ln(", ".ln_1p(", ".log(", ".log2(", ".log10("] {
-            self.lacks(name);
-        }
-    }
+    write(to, name, &file.text);
 }

@@ -1,10 +1,12 @@
 //! Runs the port beside the Rust in one process. What each mode does stands in the README.
 
 mod compare;
+mod engine;
 mod family;
 mod matcher;
 mod numbers;
 mod progress;
+mod random;
 mod sessions;
 mod value;
 
@@ -15,6 +17,9 @@ use std::{env, io};
 
 const USAGE: &str = "\
 usage: run [--quick | --bench | --list | --matcher-list | --sessions | --samples]
+       run --engine [--quick]
+       run --session NUMBER
+       run --mutants
        run --repeat (whole | local | opening) (ours | replaced | own)";
 
 fn main() -> ExitCode {
@@ -23,6 +28,14 @@ fn main() -> ExitCode {
     match words[..] {
         [] => verdict(check(Effort::full())),
         ["--quick"] => verdict(check(Effort::QUICK)),
+        ["--engine"] => verdict(engine::check::check(Effort::full())),
+        ["--engine", "--quick"] => verdict(engine::check::check(Effort::QUICK)),
+        #[cfg(feature = "mutants")]
+        ["--mutants"] => print_mutants(),
+        ["--session", number] => match number.parse() {
+            Ok(number) => print(&engine::check::shown(number)),
+            Err(_) => usage(),
+        },
         ["--bench"] => print(&(numbers::bench::table() + "\n" + &matcher::bench::table())),
         ["--repeat", operation, side] => match matcher::bench::repeat(operation, side) {
             Some(line) => print(&line),
@@ -47,6 +60,7 @@ fn check(effort: Effort) -> bool {
         numbers::check::check(effort),
         matcher::check::check(effort),
         sessions::check(),
+        engine::check::check(effort),
     ];
     parts.into_iter().all(|same| same)
 }
@@ -57,6 +71,17 @@ fn verdict(same: bool) -> ExitCode {
         ExitCode::SUCCESS
     } else {
         println!("there are differences");
+        ExitCode::FAILURE
+    }
+}
+
+#[cfg(feature = "mutants")]
+fn print_mutants() -> ExitCode {
+    let (table, all) = engine::mutants::table(Effort::full());
+    let printed = print(&table);
+    if all {
+        printed
+    } else {
         ExitCode::FAILURE
     }
 }

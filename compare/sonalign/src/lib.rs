@@ -3,6 +3,7 @@
 //! well as answers.
 
 pub mod replaced;
+pub mod running;
 
 #[allow(dead_code, clippy::all)]
 pub mod types {
@@ -24,6 +25,11 @@ pub mod own {
     #[allow(dead_code, clippy::all)]
     pub mod matcher {
         include!(concat!(env!("OUT_DIR"), "/own/matcher.rs"));
+    }
+
+    #[allow(dead_code, clippy::all)]
+    pub mod engine {
+        include!(concat!(env!("OUT_DIR"), "/own/engine.rs"));
     }
 }
 

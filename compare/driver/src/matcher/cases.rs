@@ -2,37 +2,7 @@
 
 use super::case::{Case, Frames};
 use crate::family::pattern;
-
-/// A sequence of patterns of its own for each case.
-struct Random {
-    seed: u64,
-    drawn: u64,
-}
-
-impl Random {
-    fn bits(&mut self) -> u64 {
-        self.drawn += 1;
-        pattern(self.seed ^ self.drawn.wrapping_mul(0xd134_2543_de82_ef95))
-    }
-
-    /// Below n.
-    fn below(&mut self, n: usize) -> usize {
-        (self.bits() % n as u64) as usize
-    }
-
-    /// Between 0 and 1.
-    fn unit(&mut self) -> f64 {
-        (self.bits() >> 11) as f64 / (1u64 << 53) as f64
-    }
-
-    fn one_of<T: Copy>(&mut self, list: &[T]) -> T {
-        list[self.below(list.len())]
-    }
-
-    fn one_in(&mut self, n: usize) -> bool {
-        self.below(n) == 0
-    }
-}
+use crate::random::Random;
 
 const HOPS: [f64; 19] = [
     1.0,
@@ -79,10 +49,7 @@ pub fn radius(hop: f64) -> usize {
 
 /// Case n of small sizes.
 pub fn small(n: u64) -> Case {
-    let mut random = Random {
-        seed: pattern(n),
-        drawn: 0,
-    };
+    let mut random = Random::new(pattern(n));
     let hop = hop(&mut random);
     let bands = random.one_of(&[1, 1, 2, 2, 3, 4, 5, 8, 13]);
     let needed = 2 * radius(hop) + 17;
@@ -100,17 +67,14 @@ pub fn small(n: u64) -> Case {
 
 /// Case n of the largest sizes: 65,535 frames and 64 bands, a window of 1,024 frames.
 pub fn largest(n: u64) -> Case {
-    let mut random = Random {
-        seed: pattern(!n),
-        drawn: 0,
-    };
+    let mut random = Random::new(pattern(!n));
     let hop = [20.0, 23.22, 1.0, 250.0][n as usize % 4];
     make(&mut random, hop, 64, 65_535, 1_024)
 }
 
 /// A case for measuring: a window cut out of noise.
 pub fn measured(hop: f64, bands: usize, reference_frames: usize, frames: usize) -> Case {
-    let mut random = Random { seed: 7, drawn: 0 };
+    let mut random = Random::new(7);
     let reference = sound(&mut random, Sound::Noise, bands, reference_frames);
     let at = reference_frames / 3;
     let reference = Frames {

@@ -5,9 +5,9 @@ mod cases;
 mod float;
 mod material;
 mod readable;
-mod record;
+pub mod record;
 mod refusal;
-mod session;
+pub mod session;
 
 use session::Recorded;
 use std::path::PathBuf;

@@ -87,13 +87,13 @@ fn state(engine: &Engine) -> String {
     format!("{engine:?}")
 }
 
-fn reference_frames(from: &Soundtrack) -> Vec<FeatureFrame> {
+pub fn reference_frames(from: &Soundtrack) -> Vec<FeatureFrame> {
     // No energy of a reference is looked at.
     let energies = vec![0.0; from.times.len()];
     frames(from.bands, &from.times, &energies, &from.values)
 }
 
-fn feature_window(from: &Window) -> FeatureWindow {
+pub fn feature_window(from: &Window) -> FeatureWindow {
     let frames = frames(from.bands, &from.times, &from.energies, &from.values);
     FeatureWindow::new(frames).expect("what the Rust refuses is refused before")
 }

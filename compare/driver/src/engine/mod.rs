@@ -1,0 +1,18 @@
+//! The engine of the port beside the Rust's: whole sessions, refusals, states made by a caller,
+//! altered indexes.
+
+mod altered;
+mod both;
+pub mod check;
+mod generate;
+mod kinds;
+mod made;
+#[cfg(feature = "mutants")]
+pub mod mutants;
+mod ours;
+mod readable;
+mod reading;
+mod refusals;
+mod session;
+mod theirs;
+mod words;

@@ -1,0 +1,110 @@
+//! Whether the sessions tell the Rust with one place changed from the port: what they would not
+//! tell, they would not tell of the port either.
+
+use super::both::{Both, Opened};
+use super::{generate, made};
+use crate::compare::Effort;
+use crate::progress::Progress;
+use mutants::{Mutant, MUTANTS};
+use sonalign::running::{self, Open};
+use std::fmt::Write;
+use std::panic::{self, AssertUnwindSafe};
+use std::sync::atomic::{AtomicU64, AtomicUsize, Ordering::Relaxed};
+use std::sync::Mutex;
+use std::thread;
+
+const HEAD: &str = "\
+| place changed | file | told by | difference |
+|---|---|---|---|
+";
+
+/// What tells a mutant: where, and what differs.
+type Told = Option<(String, String)>;
+
+/// The table, and whether all are told but those that nothing can tell.
+pub fn table(effort: Effort) -> (String, bool) {
+    // A mutant may look outside its arrays: that tells it too, and needs no report.
+    panic::set_hook(Box::new(|_| {}));
+    let next = AtomicUsize::new(0);
+    let told: Vec<Mutex<Told>> = MUTANTS.iter().map(|_| Mutex::new(None)).collect();
+    let progress = Progress::new("mutants", MUTANTS.len() as u64);
+    let work = || {
+        while let Some(number) = Some(next.fetch_add(1, Relaxed)).filter(|n| *n < MUTANTS.len()) {
+            let found = by_sessions(MUTANTS[number].open).or_else(|| by_made(MUTANTS[number].open));
+            if let Ok(mut told) = told[number].lock() {
+                *told = found;
+            }
+            progress.advance(1);
+        }
+    };
+    thread::scope(|scope| {
+        for _ in 0..effort.threads() {
+            scope.spawn(work);
+        }
+    });
+    let told: Vec<Told> = told
+        .into_iter()
+        .map(|told| told.into_inner().unwrap_or(None))
+        .collect();
+    shown(&told)
+}
+
+fn shown(told: &[Told]) -> (String, bool) {
+    let mut text = String::from(HEAD);
+    let (caught, all) = (AtomicU64::new(0), AtomicU64::new(0));
+    for (mutant, told) in MUTANTS.iter().zip(told) {
+        let Mutant {
+            name, file, same, ..
+        } = mutant;
+        let (place, what) = match (told, same) {
+            (Some((place, what)), None) => (place.as_str(), what.as_str()),
+            (None, Some(why)) => ("nothing can tell it", *why),
+            (Some((place, _)), Some(_)) => (place.as_str(), "TOLD, THOUGH SAID TO BE THE SAME"),
+            (None, None) => ("NOT CAUGHT", ""),
+        };
+        caught.fetch_add(u64::from(told.is_some()), Relaxed);
+        all.fetch_add(u64::from(told.is_some() == same.is_none()), Relaxed);
+        let _ = writeln!(text, "| {name} | {file} | {place} | {what} |");
+    }
+    let (caught, all) = (caught.into_inner(), all.into_inner());
+    let count = MUTANTS.len();
+    let _ = writeln!(text, "\n{caught} of {count} told, {} as listed", all);
+    (text, all == count as u64)
+}
+
+fn by_sessions(open: Open) -> Told {
+    (0..super::check::QUICK_SESSIONS).find_map(|number| {
+        let run = || session(number, open);
+        let (submission, what) = caught(run)?;
+        Some((format!("session {number}, submission {submission}"), what))
+    })
+}
+
+fn by_made(open: Open) -> Told {
+    (0..made::QUICK_STATES).find_map(|number| {
+        let run = || made::run_with(open, number).map_err(|what| (0, what));
+        let (_, what) = caught(run)?;
+        // A state that tells the Rust itself from the port says nothing of the mutant.
+        let plain = made::run_with(running::open, number);
+        plain.is_ok().then(|| (format!("made state {number}"), what))
+    })
+}
+
+fn session(number: u64, open: Open) -> Result<(), (usize, String)> {
+    let session = generate::session(number);
+    let opened = Both::open_with(open, &session.opening, 0).map_err(|what| (0, what))?;
+    let Opened::Opened(mut both) = opened else {
+        return Ok(());
+    };
+    for (at, submission) in session.submissions.iter().enumerate() {
+        both.submit(submission).map_err(|what| (at + 1, what))?;
+    }
+    Ok(())
+}
+
+fn caught(run: impl FnOnce() -> Result<(), (usize, String)>) -> Option<(usize, String)> {
+    match panic::catch_unwind(AssertUnwindSafe(run)) {
+        Ok(came) => came.err(),
+        Err(_) => Some((0, "it panics".into())),
+    }
+}
