@@ -1,2 +1,2 @@
-pub mod Floats
-pub mod Laws
+pub mod Lengths
+pub mod ReadBack

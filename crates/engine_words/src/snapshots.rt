@@ -1,30 +1,32 @@
 // A snapshot as words.
 ghost use mathlib.Core.Path.{_≡_};
 ghost use Prim.Native.Nat.{_+_, _≤_};
-ghost use lib.ListN.{length};
-use crate::candidates::candidates_of;
-use crate::candidates::put_candidates;
-use crate::options::estimate_of;
-use crate::options::estimate_words;
-use crate::options::maybe_of;
-use crate::options::maybe_tag;
-use crate::options::maybe_word;
-use crate::options::milestone_of;
-use crate::options::milestone_tag;
-use crate::options::milestone_word;
-use crate::rows::put;
-use crate::values::bool_of;
-use crate::values::bool_word;
-use crate::values::float_word;
-use crate::values::word_float;
-use crate::variants::phase_of;
-use crate::variants::phase_word;
-use crate::variants::reason_of;
-use crate::variants::reason_word;
-use crate::variants::stage_of;
-use crate::variants::stage_word;
-use crate::variants::state_of;
-use crate::variants::state_word;
+ghost use lib.ListN.{drop, length};
+ghost use Rattle.engine_layout.specs.Layout.{diagnosticsOf, diagnosticsWith, milestonesOf, snapshotIn, snapshotOf, spectralOf};
+ghost use Rattle.engine_layout.specs.Written.{diagnosticsNumbers, diagnosticsWords, milestonesWords, placed, shownWords, spectralWords};
+use engine_layout::candidates::candidates_of;
+use engine_layout::candidates::put_candidates;
+use engine_layout::options::estimate_of;
+use engine_layout::options::estimate_words;
+use engine_layout::options::maybe_of;
+use engine_layout::options::maybe_tag;
+use engine_layout::options::maybe_word;
+use engine_layout::options::milestone_of;
+use engine_layout::options::milestone_tag;
+use engine_layout::options::milestone_word;
+use engine_layout::rows::put;
+use engine_layout::values::bool_of;
+use engine_layout::values::bool_word;
+use engine_layout::values::float_word;
+use engine_layout::values::word_float;
+use engine_layout::variants::phase_of;
+use engine_layout::variants::phase_word;
+use engine_layout::variants::reason_of;
+use engine_layout::variants::reason_word;
+use engine_layout::variants::stage_of;
+use engine_layout::variants::stage_word;
+use engine_layout::variants::state_of;
+use engine_layout::variants::state_word;
 use engine_spec::types::CandidateDiagnostics;
 use engine_spec::types::Diagnostics;
 use engine_spec::types::Milestones;
@@ -38,6 +40,8 @@ pub const SNAPSHOT_WORDS: usize = 77;
 
 pub fn write_snapshot(words: &mut [u64], snapshot: Snapshot)
     requires { ⌜ 77 ≤ length (now words) ⌝ }
+    ensures { λ _. ⌜ snapshotIn (now (words .exit)) ≡ snapshot ⌝ }
+    ensures tail { λ _. ⌜ drop 77 (now (words .exit)) ≡ drop 77 (now (words .entry)) ⌝ }
 {
     let first = [LAYOUT];
     put(words, 0, &first);
@@ -46,12 +50,15 @@ pub fn write_snapshot(words: &mut [u64], snapshot: Snapshot)
 
 pub fn read_snapshot(words: &[u64]) -> Snapshot
     requires { ⌜ 77 ≤ length (now words) ⌝ }
+    ensures { λ r. ⌜ r ≡ snapshotIn (now (words .entry)) ⌝ }
 {
     snapshot_of(&words[1..77])
 }
 
 pub fn put_snapshot(words: &mut [u64], at: usize, s: Snapshot)
     requires { ⌜ at + 76 ≤ length (now words) ⌝ }
+    ensures { λ _. ⌜ now (words .exit) ≡ placed at (shownWords s) (now (words .entry)) ⌝ }
+    ensures back { λ _. ⌜ snapshotOf (shownWords s) ≡ s ⌝ }
 {
     let state = s.state;
     let phase = s.phase;
@@ -73,6 +80,7 @@ pub fn put_snapshot(words: &mut [u64], at: usize, s: Snapshot)
 
 pub fn snapshot_of(words: &[u64]) -> Snapshot
     requires { ⌜ length (now words) ≡ 76 ⌝ }
+    ensures { λ r. ⌜ r ≡ snapshotOf (now (words .entry)) ⌝ }
 {
     let state = state_of(words[0]);
     let phase = phase_of(words[1]);
@@ -94,7 +102,10 @@ pub fn snapshot_of(words: &[u64]) -> Snapshot
     }
 }
 
-pub fn milestones_words(m: Milestones) -> [u64; 6] {
+pub fn milestones_words(m: Milestones) -> [u64; 6]
+    ensures { λ r. ⌜ r ≡ milestonesWords m ⌝ }
+    ensures back { λ r. ⌜ milestonesOf r ≡ m ⌝ }
+{
     let first = m.first_provisional_ms;
     let confirmed = m.confirmed_ms;
     let last = m.final_ms;
@@ -110,6 +121,7 @@ pub fn milestones_words(m: Milestones) -> [u64; 6] {
 
 pub fn milestones_of(words: &[u64]) -> Milestones
     requires { ⌜ length (now words) ≡ 6 ⌝ }
+    ensures { λ r. ⌜ r ≡ milestonesOf (now (words .entry)) ⌝ }
 {
     Milestones {
         first_provisional_ms: milestone_of(words[0], words[1]),
@@ -120,6 +132,8 @@ pub fn milestones_of(words: &[u64]) -> Milestones
 
 fn put_diagnostics(words: &mut [u64], at: usize, d: Diagnostics)
     requires { ⌜ at + 61 ≤ length (now words) ⌝ }
+    ensures { λ _. ⌜ now (words .exit) ≡ placed at (diagnosticsWords d) (now (words .entry)) ⌝ }
+    ensures back { λ _. ⌜ diagnosticsOf (diagnosticsWords d) ≡ d ⌝ }
 {
     let numbers = diagnostics_words(d);
     put(words, at, &numbers);
@@ -132,6 +146,7 @@ fn put_diagnostics(words: &mut [u64], at: usize, d: Diagnostics)
 
 fn diagnostics_of(words: &[u64]) -> Diagnostics
     requires { ⌜ length (now words) ≡ 61 ⌝ }
+    ensures { λ r. ⌜ r ≡ diagnosticsOf (now (words .entry)) ⌝ }
 {
     let candidates = candidates_of(&words[12..52]);
     let spectral = spectral_of(&words[52..61]);
@@ -139,7 +154,10 @@ fn diagnostics_of(words: &[u64]) -> Diagnostics
 }
 
 // All but the candidates and what the spectral search found.
-fn diagnostics_words(d: Diagnostics) -> [u64; 12] {
+fn diagnostics_words(d: Diagnostics) -> [u64; 12]
+    ensures { λ r. ⌜ r ≡ diagnosticsNumbers d ⌝ }
+    ensures back { λ r. ⌜ diagnosticsWith r (d .candidates) (d .spectral) ≡ d ⌝ }
+{
     let stability = d.offset_stability_ms;
     let innovation = d.track_innovation_ms;
     [
@@ -164,6 +182,7 @@ fn diagnostics_with(
     spectral: SpectralDiagnostics,
 ) -> Diagnostics
     requires { ⌜ length (now words) ≡ 12 ⌝ }
+    ensures { λ r. ⌜ r ≡ diagnosticsWith (now (words .entry)) candidates spectral ⌝ }
 {
     Diagnostics {
         query_duration_ms: word_float(words[0]),
@@ -181,7 +200,10 @@ fn diagnostics_with(
     }
 }
 
-fn spectral_words(s: SpectralDiagnostics) -> [u64; 9] {
+fn spectral_words(s: SpectralDiagnostics) -> [u64; 9]
+    ensures { λ r. ⌜ r ≡ spectralWords s ⌝ }
+    ensures back { λ r. ⌜ spectralOf r ≡ s ⌝ }
+{
     let margin = s.competing_peak_margin;
     [
         bool_word(s.global_search),
@@ -198,6 +220,7 @@ fn spectral_words(s: SpectralDiagnostics) -> [u64; 9] {
 
 fn spectral_of(words: &[u64]) -> SpectralDiagnostics
     requires { ⌜ length (now words) ≡ 9 ⌝ }
+    ensures { λ r. ⌜ r ≡ spectralOf (now (words .entry)) ⌝ }
 {
     SpectralDiagnostics {
         global_search: bool_of(words[0]),

@@ -1,22 +1,25 @@
 // A state as words.
 ghost use mathlib.Core.Path.{_≡_};
 ghost use Prim.Native.Nat.{_+_, _≤_};
-ghost use lib.ListN.{length};
-use crate::options::endpoint_of;
-use crate::options::endpoint_tag;
-use crate::options::endpoint_word;
-use crate::options::hypothesis_of;
-use crate::options::hypothesis_words;
-use crate::rows::put;
+ghost use lib.ListN.{drop, length};
+ghost use Rattle.engine_spec.specs.Opening.{noEngine};
+ghost use Rattle.engine_layout.specs.Layout.{configurationOf, engineOf, lastOf, lockOf, settingsOf, stateIn};
+ghost use Rattle.engine_layout.specs.Written.{engineWords, lastWords, lockWords, placed, settingsWords};
 use crate::snapshots::LAYOUT;
 use crate::snapshots::milestones_of;
 use crate::snapshots::milestones_words;
 use crate::snapshots::put_snapshot;
 use crate::snapshots::snapshot_of;
-use crate::values::bool_of;
-use crate::values::bool_word;
-use crate::values::float_word;
-use crate::values::word_float;
+use engine_layout::options::endpoint_of;
+use engine_layout::options::endpoint_tag;
+use engine_layout::options::endpoint_word;
+use engine_layout::options::hypothesis_of;
+use engine_layout::options::hypothesis_words;
+use engine_layout::rows::put;
+use engine_layout::values::bool_of;
+use engine_layout::values::bool_word;
+use engine_layout::values::float_word;
+use engine_layout::values::word_float;
 use engine_spec::types::Configuration;
 use engine_spec::types::Engine;
 use engine_spec::types::Last;
@@ -30,6 +33,8 @@ pub const STATE_WORDS: usize = 106;
 
 pub fn write_state(words: &mut [u64], engine: Engine)
     requires { ⌜ 106 ≤ length (now words) ⌝ }
+    ensures { λ _. ⌜ stateIn (now (words .exit)) ≡ engine ⌝ }
+    ensures tail { λ _. ⌜ drop 106 (now (words .exit)) ≡ drop 106 (now (words .entry)) ⌝ }
 {
     let first = [LAYOUT];
     put(words, 0, &first);
@@ -39,6 +44,7 @@ pub fn write_state(words: &mut [u64], engine: Engine)
 // Words of another layout hold no engine.
 pub fn read_state(words: &[u64]) -> Engine
     requires { ⌜ 106 ≤ length (now words) ⌝ }
+    ensures { λ r. ⌜ r ≡ stateIn (now (words .entry)) ⌝ }
 {
     if words[0] == LAYOUT {
         return engine_of(&words[1..106]);
@@ -48,7 +54,9 @@ pub fn read_state(words: &[u64]) -> Engine
 }
 
 // Zeros, and minus infinity as the time of the last whole search.
-fn no_engine() -> Engine {
+fn no_engine() -> Engine
+    ensures { λ r. ⌜ r ≡ noEngine ⌝ }
+{
     let mut words: [u64; 105] = [0; 105];
     words[19] = 0xfff0_0000_0000_0000;
     engine_of(&words)
@@ -56,6 +64,8 @@ fn no_engine() -> Engine {
 
 fn put_engine(words: &mut [u64], e: Engine)
     requires { ⌜ 106 ≤ length (now words) ⌝ }
+    ensures { λ _. ⌜ now (words .exit) ≡ placed 1 (engineWords e) (now (words .entry)) ⌝ }
+    ensures back { λ _. ⌜ engineOf (engineWords e) ≡ e ⌝ }
 {
     let settings = e.settings;
     let fixed = settings_words(settings);
@@ -71,6 +81,7 @@ fn put_engine(words: &mut [u64], e: Engine)
 
 fn engine_of(words: &[u64]) -> Engine
     requires { ⌜ length (now words) ≡ 105 ⌝ }
+    ensures { λ r. ⌜ r ≡ engineOf (now (words .entry)) ⌝ }
 {
     let settings = settings_of(&words[0..9]);
     let lock = lock_of(&words[9..20]);
@@ -84,7 +95,10 @@ fn engine_of(words: &[u64]) -> Engine
     }
 }
 
-fn settings_words(s: Settings) -> [u64; 9] {
+fn settings_words(s: Settings) -> [u64; 9]
+    ensures { λ r. ⌜ r ≡ settingsWords s ⌝ }
+    ensures back { λ r. ⌜ settingsOf r ≡ s ⌝ }
+{
     let c = s.configuration;
     [
         float_word(c.minimum_readiness_duration_ms),
@@ -101,6 +115,7 @@ fn settings_words(s: Settings) -> [u64; 9] {
 
 fn settings_of(words: &[u64]) -> Settings
     requires { ⌜ length (now words) ≡ 9 ⌝ }
+    ensures { λ r. ⌜ r ≡ settingsOf (now (words .entry)) ⌝ }
 {
     let configuration = configuration_of(&words[0..5]);
     Settings {
@@ -114,6 +129,7 @@ fn settings_of(words: &[u64]) -> Settings
 
 fn configuration_of(words: &[u64]) -> Configuration
     requires { ⌜ length (now words) ≡ 5 ⌝ }
+    ensures { λ r. ⌜ r ≡ configurationOf (now (words .entry)) ⌝ }
 {
     Configuration {
         minimum_readiness_duration_ms: word_float(words[0]),
@@ -126,6 +142,8 @@ fn configuration_of(words: &[u64]) -> Configuration
 
 fn put_lock(words: &mut [u64], at: usize, l: Lock)
     requires { ⌜ at + 11 ≤ length (now words) ⌝ }
+    ensures { λ _. ⌜ now (words .exit) ≡ placed at (lockWords l) (now (words .entry)) ⌝ }
+    ensures back { λ _. ⌜ lockOf (lockWords l) ≡ l ⌝ }
 {
     let pending = l.pending;
     let first = hypothesis_words(pending);
@@ -139,6 +157,7 @@ fn put_lock(words: &mut [u64], at: usize, l: Lock)
 
 fn lock_of(words: &[u64]) -> Lock
     requires { ⌜ length (now words) ≡ 11 ⌝ }
+    ensures { λ r. ⌜ r ≡ lockOf (now (words .entry)) ⌝ }
 {
     let pending = hypothesis_of(&words[0..5]);
     let accepted = hypothesis_of(&words[5..10]);
@@ -151,6 +170,8 @@ fn lock_of(words: &[u64]) -> Lock
 
 fn put_last(words: &mut [u64], at: usize, l: Last)
     requires { ⌜ at + 79 ≤ length (now words) ⌝ }
+    ensures { λ _. ⌜ now (words .exit) ≡ placed at (lastWords l) (now (words .entry)) ⌝ }
+    ensures back { λ _. ⌜ lastOf (lastWords l) ≡ l ⌝ }
 {
     let endpoint = l.endpoint_ms;
     let head = [
@@ -165,6 +186,7 @@ fn put_last(words: &mut [u64], at: usize, l: Last)
 
 fn last_of(words: &[u64]) -> Last
     requires { ⌜ length (now words) ≡ 79 ⌝ }
+    ensures { λ r. ⌜ r ≡ lastOf (now (words .entry)) ⌝ }
 {
     let endpoint_ms = endpoint_of(words[0], words[1]);
     let has_snapshot = bool_of(words[2]);
