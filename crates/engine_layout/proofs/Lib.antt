@@ -1,0 +1,3 @@
+pub mod Floats
+pub mod Laws
+pub mod EightRows

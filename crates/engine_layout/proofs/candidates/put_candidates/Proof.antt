@@ -1,0 +1,97 @@
+use Prim.Native.Nat.{ℕ, suc, _+_, _*_, _≤_, _-_}
+use mathlib.Core.Path.{_≡_, refl, sym, ap, _∙_}
+use mathlib.Core.List.{List}
+use native.Mathlib.Numerals.{add-one}
+use lib.ListN.{length, getD}
+use Rattle.engine_spec.specs.declared.types.CandidateDiagnostics.{CandidateDiagnostics}
+use Rattle.engine_layout.specs.Layout.{candidateOf}
+use Rattle.engine_layout.specs.Written.{noCandidate, candidatesTo, candidateWords, placed}
+use Rattle.engine_layout.proofs.Laws.{Laid, none-laid}
+use Rattle.engine_layout.proofs.EightRows.{row-more, BackTo, all-back}
+use native.Mathlib.Omega.{arith}
+use borrow.Author.Needs.{needs}
+use Rattle.engine_layout.proofs.candidates.put_candidates.Statement.{statement}
+use Rattle.engine_layout.proofs.candidates.put_candidates.Tie as tie
+
+abbrev Inv-loop : tie.InvT-loop
+Inv-loop words₀ at candidates i₀ words i = (i ≤ 8) × (length words ≡ length words₀) × Laid at (i * 5) (candidatesTo i candidates) words₀ words × BackTo i candidates
+
+abbrev μ-loop : tie.MeasureT-loop
+μ-loop words₀ at candidates i₀ words i = 8 - i
+
+loop-holds : tie.Need-loop-holds Inv-loop μ-loop
+unfolding candidatesTo BackTo
+loop-holds c = (search needs, search needs, none-laid _ _, tt)
+
+mul-candidate : tie.Need-mul-candidate Inv-loop μ-loop
+mul-candidate c = search needs
+
+array-copy-out-candidate : tie.Need-array-copy-out-candidate Inv-loop μ-loop
+array-copy-out-candidate c = search needs
+
+candidate-words-requires : tie.Need-candidate-words-requires Inv-loop μ-loop
+candidate-words-requires c κs = search needs
+
+mul-put : tie.Need-mul-put Inv-loop μ-loop
+mul-put c = search needs
+
+add-put : tie.Need-add-put Inv-loop μ-loop
+add-put c = search needs
+
+slice-aggregate-put : tie.Need-slice-aggregate-put Inv-loop μ-loop
+slice-aggregate-put c = search needs
+
+put-requires : tie.Need-put-requires Inv-loop μ-loop
+put-requires c κs = search needs
+
+add-i : tie.Need-add-i Inv-loop μ-loop
+add-i c = search needs
+
+loop-less : tie.Need-loop-less Inv-loop μ-loop
+loop-less c = search needs
+
+loop-again : tie.Need-loop-again Inv-loop μ-loop
+unfolding BackTo
+loop-again c =
+    let p = c .before .before .put in
+    let l = c .before .before .before .before .before .before .before .before .loop in
+    let a = c .before .before .before .before .before .before .before .before .before .before .args in
+    let row = c .before .before .before .before .before .candidate-words in
+    let x : CandidateDiagnostics = getD (a .t3) (l .i) noCandidate in
+    let back : candidateOf (candidateWords x) ≡ x = ap candidateOf (sym (row .ensures .0)) ∙ row .ensures .1 in (
+      omega arith,
+      p .kept .0 ∙ l .inv .1,
+      rw add-one (row-more (a .t3) (a .at) (l .i) (a .words .now) (l .words) (p .last .0) (row .result) (l .inv .2) (omega arith) (search needs) (row .ensures .0) (p .ensures)),
+      rw add-one (l .inv .3, back),
+    )
+
+same-length : tie.Need-same-length Inv-loop μ-loop
+same-length c = search needs
+
+returns : tie.Need-returns Inv-loop μ-loop
+returns c =
+    let l = c .before .loop in
+    let a = c .before .before .before .args in
+    let e : l .i ≡ 8 = omega arith in
+    let h : length (a .t3) ≡ 8 = search needs in
+    ((rw e at (l .inv .2)) .there, all-back (a .t3) h (rw e at (l .inv .3)))
+
+pub put-candidates-spec : {M : Type 1} → statement M
+put-candidates-spec =
+    tie.close
+    (tie.spec
+    Inv-loop
+    μ-loop
+    loop-holds
+    mul-candidate
+    array-copy-out-candidate
+    candidate-words-requires
+    mul-put
+    add-put
+    slice-aggregate-put
+    put-requires
+    add-i
+    loop-less
+    loop-again
+    same-length
+    returns)

@@ -1,0 +1,21 @@
+use Rattle.engine_layout.specs.Written.{endpointTag}
+use borrow.Author.Needs.{needs}
+use Rattle.engine_layout.proofs.options.endpoint_tag.Statement.{statement}
+use Rattle.engine_layout.proofs.options.endpoint_tag.Tie as tie
+
+enum-told : tie.Need-enum-told
+enum-told c = search needs
+
+enum-told-2 : tie.Need-enum-told-2
+enum-told-2 c = search needs
+
+returns : tie.Need-returns
+unfolding endpointTag
+returns c = simp (c .enum-told .given .1)
+
+returns-2 : tie.Need-returns-2
+unfolding endpointTag
+returns-2 c = simp (c .enum-told2 .given .1)
+
+pub endpoint-tag-spec : {M : Type 1} → statement M
+endpoint-tag-spec = tie.close (tie.spec enum-told enum-told-2 returns returns-2)

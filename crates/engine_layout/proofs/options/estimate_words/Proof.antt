@@ -1,0 +1,40 @@
+use Rattle.engine_layout.specs.Layout.{estimateOf}
+use Rattle.engine_layout.specs.Written.{estimateWords}
+use borrow.Author.Needs.{needs}
+use Rattle.engine_layout.proofs.options.estimate_words.Statement.{statement}
+use Rattle.engine_layout.proofs.options.estimate_words.Tie as tie
+
+enum-told : tie.Need-enum-told
+enum-told c = search needs
+
+enum-known-e : tie.Need-enum-known-e
+enum-known-e c = search needs
+
+float-word-requires : tie.Need-float-word-requires
+float-word-requires c κs = search needs
+
+float-word-requires-2 : tie.Need-float-word-requires-2
+float-word-requires-2 c κs = search needs
+
+float-word-requires-3 : tie.Need-float-word-requires-3
+float-word-requires-3 c κs = search needs
+
+returns : tie.Need-returns
+unfolding estimateWords estimateOf
+returns c = (simp (c .enum-told .given .1), simp (c .enum-told .given .1))
+
+returns-2 : tie.Need-returns-2
+unfolding estimateWords estimateOf
+returns-2 c = (simp (c .before .before .before .before .e .given .1, c .before .before .float-word .ensures .0, c .before .float-word2 .ensures .0, c .float-word3 .ensures .0), simp (c .before .before .before .before .e .given .1, c .before .before .float-word .ensures .1, c .before .float-word2 .ensures .1, c .float-word3 .ensures .1))
+
+pub estimate-words-spec : {M : Type 1} → statement M
+estimate-words-spec =
+    tie.close
+    (tie.spec
+    enum-told
+    enum-known-e
+    float-word-requires
+    float-word-requires-2
+    float-word-requires-3
+    returns
+    returns-2)

@@ -1,0 +1,142 @@
+use Rattle.engine_words.proofs.ReadBack.{snapshot-back, state-back, phase-back, stage-back, reason-back}
+use Rattle.engine_words.proofs.Lengths.{estimate-long, diagnostics-long, milestones-long}
+use Rattle.engine_layout.specs.Written.{stateWord, phaseWord, stageWord, reasonWord, estimateWords, diagnosticsWords, milestonesWords, shownWords}
+use Rattle.engine_layout.specs.Layout.{word, float, estimateOf, milestonesOf}
+use lib.ListN.{length}
+use native.Mathlib.Omega.{arith}
+use Prim.Native.Nat.{ℕ, _+_, _≤_}
+use mathlib.Core.List.{List, [], _∷_, _++_}
+use mathlib.Core.Path.{_≡_, refl, sym, ap, _∙_}
+use Rattle.engine_layout.proofs.Laws.{Laid, first-laid, next-laid, cons-same}
+use borrow.Author.Needs.{needs}
+use Rattle.engine_words.proofs.snapshots.put_snapshot.Statement.{statement}
+use Rattle.engine_words.proofs.snapshots.put_snapshot.Tie as tie
+use Rattle.engine_words.proofs.snapshots.put_snapshot.Reads as reads
+use Rattle.engine_words.proofs.snapshots.put_snapshot.Lts as lts
+use Rattle.engine_layout.proofs.options.estimate_words.Reads as estimate-words-reads
+use Rattle.engine_layout.proofs.rows.put.Reads as put-reads
+use Rattle.engine_layout.proofs.values.float_word.Reads as float-word-reads
+use Rattle.engine_layout.proofs.variants.phase_word.Reads as phase-word-reads
+use Rattle.engine_layout.proofs.variants.reason_word.Reads as reason-word-reads
+use Rattle.engine_layout.proofs.variants.stage_word.Reads as stage-word-reads
+use Rattle.engine_layout.proofs.variants.state_word.Reads as state-word-reads
+use Rattle.engine_words.proofs.snapshots.milestones_words.Reads as milestones-words-reads
+use Rattle.engine_words.proofs.snapshots.put_diagnostics.Reads as put-diagnostics-reads
+
+state-word-requires : tie.Need-state-word-requires
+state-word-requires c κs = search needs
+
+phase-word-requires : tie.Need-phase-word-requires
+phase-word-requires c κs = search needs
+
+stage-word-requires : tie.Need-stage-word-requires
+stage-word-requires c κs = search needs
+
+slice-aggregate-put : tie.Need-slice-aggregate-put
+slice-aggregate-put c = search needs
+
+put-requires : tie.Need-put-requires
+put-requires c κs = search needs
+
+estimate-words-requires : tie.Need-estimate-words-requires
+estimate-words-requires c κs = search needs
+
+add-put : tie.Need-add-put
+add-put c = search needs
+
+slice-aggregate-put-2 : tie.Need-slice-aggregate-put-2
+slice-aggregate-put-2 c = search needs
+
+put-requires-2 : tie.Need-put-requires-2
+put-requires-2 c κs = search needs
+
+reason-word-requires : tie.Need-reason-word-requires
+reason-word-requires c κs = search needs
+
+float-word-requires : tie.Need-float-word-requires
+float-word-requires c κs = search needs
+
+add-put-2 : tie.Need-add-put-2
+add-put-2 c = search needs
+
+slice-aggregate-put-3 : tie.Need-slice-aggregate-put-3
+slice-aggregate-put-3 c = search needs
+
+put-requires-3 : tie.Need-put-requires-3
+put-requires-3 c κs = search needs
+
+add-put-diagnostics : tie.Need-add-put-diagnostics
+add-put-diagnostics c = search needs
+
+put-diagnostics-requires : tie.Need-put-diagnostics-requires
+put-diagnostics-requires c κs = search needs
+
+milestones-words-requires : tie.Need-milestones-words-requires
+milestones-words-requires c κs = search needs
+
+add-put-3 : tie.Need-add-put-3
+add-put-3 c = search needs
+
+slice-aggregate-put-4 : tie.Need-slice-aggregate-put-4
+slice-aggregate-put-4 c = search needs
+
+put-requires-4 : tie.Need-put-requires-4
+put-requires-4 c κs = search needs
+
+same-length : tie.Need-same-length
+same-length c = search needs
+
+returns : tie.Need-returns
+unfolding shownWords
+returns c =
+    let a = c .before .before .before .before .before .before .before .before .before .before .before .before .before .before .before .before .before .before .before .before .before .before .before .before .before .before .before .before .before .before .before .before .before .before .args in
+    let s = a .s in
+    let w0 : List ℕ = a .words .now in
+    let h : a .at + 76 ≤ length w0 = c .before .before .before .before .before .before .before .before .before .before .before .before .before .before .before .before .before .before .before .before .before .before .before .before .before .before .before .before .before .before .before .before .before .before .pre in
+    let place = c .before .before .before .before .before .before .before .before .before .before .before .before .before .before .before .before .before .before .before .before .before .before .before .before .estimate-words in
+    let readings = c .before .before .before .before .before .milestones-words in
+    let kinds : List ℕ = stateWord (s .state) ∷ phaseWord (s .phase) ∷ stageWord (s .stage) ∷ [] in
+    let support : List ℕ = reasonWord (s .«withhold_reason») ∷ word (s .confidence) ∷ [] in
+    let l1 : Laid (a .at) 3 kinds w0 (c .before .before .before .before .before .before .before .before .before .before .before .before .before .before .before .before .before .before .before .before .before .before .before .before .before .before .before .put .last .0) =
+    first-laid (cons-same (c .before .before .before .before .before .before .before .before .before .before .before .before .before .before .before .before .before .before .before .before .before .before .before .before .before .before .before .before .before .before .before .before .state-word .ensures) (cons-same (c .before .before .before .before .before .before .before .before .before .before .before .before .before .before .before .before .before .before .before .before .before .before .before .before .before .before .before .before .before .before .before .phase-word .ensures) (cons-same (c .before .before .before .before .before .before .before .before .before .before .before .before .before .before .before .before .before .before .before .before .before .before .before .before .before .before .before .before .before .before .stage-word .ensures) refl))) refl (c .before .before .before .before .before .before .before .before .before .before .before .before .before .before .before .before .before .before .before .before .before .before .before .before .before .before .before .put .ensures) in
+    let l2 : Laid (a .at) 7 (kinds ++ estimateWords (s .estimate)) w0 (c .before .before .before .before .before .before .before .before .before .before .before .before .before .before .before .before .before .before .before .before .before .put2 .last .0) =
+    next-laid l1 (place .ensures .0) (estimate-long (s .estimate)) refl (omega arith) (c .before .before .before .before .before .before .before .before .before .before .before .before .before .before .before .before .before .before .before .before .before .put2 .ensures) in
+    let l3 : Laid (a .at) 9 (kinds ++ estimateWords (s .estimate) ++ support) w0 (c .before .before .before .before .before .before .before .before .before .before .before .before .before .before .put3 .last .0) =
+    next-laid l2 (cons-same (c .before .before .before .before .before .before .before .before .before .before .before .before .before .before .before .before .before .before .reason-word .ensures) (cons-same (c .before .before .before .before .before .before .before .before .before .before .before .before .before .before .before .before .before .float-word .ensures .0) refl)) refl refl (omega arith) (c .before .before .before .before .before .before .before .before .before .before .before .before .before .before .put3 .ensures) in
+    let l4 : Laid (a .at) 70 (kinds ++ estimateWords (s .estimate) ++ support ++ diagnosticsWords (s .diagnostics)) w0 (c .before .before .before .before .before .before .before .before .before .put-diagnostics .last .0) =
+    next-laid l3 refl (diagnostics-long (s .diagnostics)) refl (omega arith) (c .before .before .before .before .before .before .before .before .before .put-diagnostics .ensures .0) in
+    let l5 : Laid (a .at) 76 (kinds ++ estimateWords (s .estimate) ++ support ++ diagnosticsWords (s .diagnostics) ++ milestonesWords (s .milestones)) w0 (c .before .before .put4 .last .0) =
+    next-laid l4 (readings .ensures .0) (milestones-long (s .milestones)) refl (omega arith) (c .before .before .put4 .ensures) in
+    let be : estimateOf (estimateWords (s .estimate)) ≡ s .estimate = ap estimateOf (sym (place .ensures .0)) ∙ place .ensures .1 in
+    let bf : float (word (s .confidence)) ≡ s .confidence = ap (λ (n : ℕ). float n) (sym (c .before .before .before .before .before .before .before .before .before .before .before .before .before .before .before .before .before .float-word .ensures .0)) ∙ c .before .before .before .before .before .before .before .before .before .before .before .before .before .before .before .before .before .float-word .ensures .1 in
+    let bm : milestonesOf (milestonesWords (s .milestones)) ≡ s .milestones = ap milestonesOf (sym (readings .ensures .0)) ∙ readings .ensures .1 in (
+      l5 .there,
+      snapshot-back s (s .estimate) _ _ _ _ _ _ _ (diagnostics-long (s .diagnostics)) (milestones-long (s .milestones)) (state-back (s .state)) (phase-back (s .phase)) (stage-back (s .stage)) be (reason-back (s .«withhold_reason»)) bf (c .before .before .before .before .before .before .before .before .before .put-diagnostics .ensures .1) bm,
+    )
+
+pub put-snapshot-spec : {M : Type 1} → statement M
+put-snapshot-spec =
+    tie.close
+    (tie.spec
+    state-word-requires
+    phase-word-requires
+    stage-word-requires
+    slice-aggregate-put
+    put-requires
+    estimate-words-requires
+    add-put
+    slice-aggregate-put-2
+    put-requires-2
+    reason-word-requires
+    float-word-requires
+    add-put-2
+    slice-aggregate-put-3
+    put-requires-3
+    add-put-diagnostics
+    put-diagnostics-requires
+    milestones-words-requires
+    add-put-3
+    slice-aggregate-put-4
+    put-requires-4
+    same-length
+    returns)

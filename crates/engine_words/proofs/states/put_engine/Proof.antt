@@ -1,0 +1,84 @@
+use Rattle.engine_words.proofs.ReadBack.{engine-back}
+use Rattle.engine_words.proofs.Lengths.{settings-long, lock-long, milestones-long, last-long}
+use Rattle.engine_layout.specs.Written.{settingsWords, lockWords, milestonesWords, lastWords, engineWords}
+use Rattle.engine_layout.specs.Layout.{settingsOf, milestonesOf}
+use lib.ListN.{length}
+use native.Mathlib.Omega.{arith}
+use Prim.Native.Nat.{ℕ, _+_, _≤_}
+use mathlib.Core.List.{List, [], _∷_, _++_}
+use mathlib.Core.Path.{_≡_, refl, sym, ap, _∙_}
+use Rattle.engine_layout.proofs.Laws.{Laid, first-laid, next-laid, cons-same}
+use borrow.Author.Needs.{needs}
+use Rattle.engine_words.proofs.states.put_engine.Statement.{statement}
+use Rattle.engine_words.proofs.states.put_engine.Tie as tie
+use Rattle.engine_words.proofs.states.put_engine.Reads as reads
+use Rattle.engine_words.proofs.states.put_engine.Lts as lts
+use Rattle.engine_layout.proofs.rows.put.Reads as put-reads
+use Rattle.engine_words.proofs.snapshots.milestones_words.Reads as milestones-words-reads
+use Rattle.engine_words.proofs.states.put_last.Reads as put-last-reads
+use Rattle.engine_words.proofs.states.put_lock.Reads as put-lock-reads
+use Rattle.engine_words.proofs.states.settings_words.Reads as settings-words-reads
+
+settings-words-requires : tie.Need-settings-words-requires
+settings-words-requires c κs = search needs
+
+slice-aggregate-put : tie.Need-slice-aggregate-put
+slice-aggregate-put c = search needs
+
+put-requires : tie.Need-put-requires
+put-requires c κs = search needs
+
+put-lock-requires : tie.Need-put-lock-requires
+put-lock-requires c κs = search needs
+
+milestones-words-requires : tie.Need-milestones-words-requires
+milestones-words-requires c κs = search needs
+
+slice-aggregate-put-2 : tie.Need-slice-aggregate-put-2
+slice-aggregate-put-2 c = search needs
+
+put-requires-2 : tie.Need-put-requires-2
+put-requires-2 c κs = search needs
+
+put-last-requires : tie.Need-put-last-requires
+put-last-requires c κs = search needs
+
+same-length : tie.Need-same-length
+same-length c = search needs
+
+returns : tie.Need-returns
+unfolding engineWords
+returns c =
+    let a = c .before .before .before .before .before .before .before .before .before .before .before .before .before .before .before .before .before .before .before .before .before .before .before .before .before .args in
+    let e = a .e in
+    let w0 : List ℕ = a .words .now in
+    let h : 106 ≤ length w0 = c .before .before .before .before .before .before .before .before .before .before .before .before .before .before .before .before .before .before .before .before .before .before .before .before .before .pre in
+    let fixed = c .before .before .before .before .before .before .before .before .before .before .before .before .before .before .before .before .before .before .before .before .before .before .settings-words in
+    let readings = c .before .before .before .before .before .before .before .before .before .before .milestones-words in
+    let l1 : Laid 1 9 (settingsWords (e .settings)) w0 (c .before .before .before .before .before .before .before .before .before .before .before .before .before .before .before .before .before .before .before .put .last .0) = first-laid (fixed .ensures .0) (settings-long (e .settings)) (c .before .before .before .before .before .before .before .before .before .before .before .before .before .before .before .before .before .before .before .put .ensures) in
+    let l2 : Laid 1 20 (settingsWords (e .settings) ++ lockWords (e .lock)) w0 (c .before .before .before .before .before .before .before .before .before .before .before .before .before .before .put-lock .last .0) =
+    next-laid l1 refl (lock-long (e .lock)) refl (omega arith) (c .before .before .before .before .before .before .before .before .before .before .before .before .before .before .put-lock .ensures .0) in
+    let l3 : Laid 1 26 (settingsWords (e .settings) ++ lockWords (e .lock) ++ milestonesWords (e .milestones)) w0 (c .before .before .before .before .before .before .before .put2 .last .0) =
+    next-laid l2 (readings .ensures .0) (milestones-long (e .milestones)) refl (omega arith) (c .before .before .before .before .before .before .before .put2 .ensures) in
+    let l4 : Laid 1 105 (settingsWords (e .settings) ++ lockWords (e .lock) ++ milestonesWords (e .milestones) ++ lastWords (e .last)) w0 (c .before .before .put-last .last .0) =
+    next-laid l3 refl (last-long (e .last)) refl (omega arith) (c .before .before .put-last .ensures .0) in
+    let bs : settingsOf (settingsWords (e .settings)) ≡ e .settings = ap settingsOf (sym (fixed .ensures .0)) ∙ fixed .ensures .1 in
+    let bm : milestonesOf (milestonesWords (e .milestones)) ≡ e .milestones = ap milestonesOf (sym (readings .ensures .0)) ∙ readings .ensures .1 in (
+      l4 .there,
+      engine-back e _ _ _ _ (settings-long (e .settings)) (lock-long (e .lock)) (milestones-long (e .milestones)) (last-long (e .last)) bs (c .before .before .before .before .before .before .before .before .before .before .before .before .before .before .put-lock .ensures .1) bm (c .before .before .put-last .ensures .1),
+    )
+
+pub put-engine-spec : {M : Type 1} → statement M
+put-engine-spec =
+    tie.close
+    (tie.spec
+    settings-words-requires
+    slice-aggregate-put
+    put-requires
+    put-lock-requires
+    milestones-words-requires
+    slice-aggregate-put-2
+    put-requires-2
+    put-last-requires
+    same-length
+    returns)

@@ -1,0 +1,75 @@
+use Rattle.engine_words.proofs.ReadBack.{last-back, bool-back}
+use Rattle.engine_words.proofs.Lengths.{shown-long}
+use Rattle.engine_layout.specs.Written.{boolWord, endpointTag, endpointWord, shownWords, lastWords}
+use Rattle.engine_layout.specs.Layout.{endpointOf}
+use lib.ListN.{length}
+use native.Mathlib.Omega.{arith}
+use Prim.Native.Nat.{ℕ, _+_, _≤_}
+use mathlib.Core.List.{List, [], _∷_, _++_}
+use mathlib.Core.Path.{_≡_, refl, sym, ap, _∙_}
+use Rattle.engine_layout.proofs.Laws.{Laid, first-laid, next-laid, cons-same}
+use borrow.Author.Needs.{needs}
+use Rattle.engine_words.proofs.states.put_last.Statement.{statement}
+use Rattle.engine_words.proofs.states.put_last.Tie as tie
+use Rattle.engine_words.proofs.states.put_last.Reads as reads
+use Rattle.engine_words.proofs.states.put_last.Lts as lts
+use Rattle.engine_layout.proofs.options.endpoint_tag.Reads as endpoint-tag-reads
+use Rattle.engine_layout.proofs.options.endpoint_word.Reads as endpoint-word-reads
+use Rattle.engine_layout.proofs.rows.put.Reads as put-reads
+use Rattle.engine_layout.proofs.values.bool_word.Reads as bool-word-reads
+use Rattle.engine_words.proofs.snapshots.put_snapshot.Reads as put-snapshot-reads
+
+endpoint-tag-requires : tie.Need-endpoint-tag-requires
+endpoint-tag-requires c κs = search needs
+
+endpoint-word-requires : tie.Need-endpoint-word-requires
+endpoint-word-requires c κs = search needs
+
+bool-word-requires : tie.Need-bool-word-requires
+bool-word-requires c κs = search needs
+
+slice-aggregate-put : tie.Need-slice-aggregate-put
+slice-aggregate-put c = search needs
+
+put-requires : tie.Need-put-requires
+put-requires c κs = search needs
+
+add-put-snapshot : tie.Need-add-put-snapshot
+add-put-snapshot c = search needs
+
+put-snapshot-requires : tie.Need-put-snapshot-requires
+put-snapshot-requires c κs = search needs
+
+same-length : tie.Need-same-length
+same-length c = search needs
+
+returns : tie.Need-returns
+unfolding lastWords
+returns c =
+    let a = c .before .before .before .before .before .before .before .before .before .before .before .before .before .before .args in
+    let l = a .l in
+    let w0 : List ℕ = a .words .now in
+    let h : a .at + 79 ≤ length w0 = c .before .before .before .before .before .before .before .before .before .before .before .before .before .before .pre in
+    let point = c .before .before .before .before .before .before .before .before .before .before .before .endpoint-word in
+    let head : List ℕ = endpointTag (l .«endpoint_ms») ∷ endpointWord (l .«endpoint_ms») ∷ boolWord (l .«has_snapshot») ∷ [] in
+    let l1 : Laid (a .at) 3 head w0 (c .before .before .before .before .before .before .before .put .last .0) =
+    first-laid (cons-same (c .before .before .before .before .before .before .before .before .before .before .before .before .endpoint-tag .ensures) (cons-same (point .ensures .0) (cons-same (c .before .before .before .before .before .before .before .before .before .before .bool-word .ensures) refl))) refl (c .before .before .before .before .before .before .before .put .ensures) in
+    let l2 : Laid (a .at) 79 (head ++ shownWords (l .snapshot)) w0 (c .before .before .put-snapshot .last .0) =
+    next-laid l1 refl (shown-long (l .snapshot)) refl (omega arith) (c .before .before .put-snapshot .ensures .0) in
+    let be : endpointOf (endpointTag (l .«endpoint_ms»)) (endpointWord (l .«endpoint_ms»)) ≡ l .«endpoint_ms» =
+    ap (λ (n : ℕ). endpointOf (endpointTag (l .«endpoint_ms»)) n) (sym (point .ensures .0)) ∙ point .ensures .1 in
+    (l2 .there, last-back l _ _ _ _ (shown-long (l .snapshot)) be (bool-back (l .«has_snapshot»)) (c .before .before .put-snapshot .ensures .1))
+
+pub put-last-spec : {M : Type 1} → statement M
+put-last-spec =
+    tie.close
+    (tie.spec
+    endpoint-tag-requires
+    endpoint-word-requires
+    bool-word-requires
+    slice-aggregate-put
+    put-requires
+    add-put-snapshot
+    put-snapshot-requires
+    same-length
+    returns)

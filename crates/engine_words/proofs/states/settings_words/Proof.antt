@@ -1,0 +1,61 @@
+use Prim.Native.Nat.{_%_}
+use mathlib.Core.Path.{_≡_}
+use native.Mathlib.Nat.{mod-eq-of-lt}
+use Rattle.engine_layout.specs.Written.{settingsWords}
+use Rattle.engine_layout.specs.Layout.{settingsOf, configurationOf}
+use borrow.Author.Needs.{needs}
+use Rattle.engine_words.proofs.states.settings_words.Statement.{statement}
+use Rattle.engine_words.proofs.states.settings_words.Tie as tie
+use Rattle.engine_words.proofs.states.settings_words.Reads as reads
+use Rattle.engine_words.proofs.states.settings_words.Lts as lts
+use Rattle.engine_layout.proofs.values.float_word.Reads as float-word-reads
+
+float-word-requires : tie.Need-float-word-requires
+float-word-requires c κs = search needs
+
+float-word-requires-2 : tie.Need-float-word-requires-2
+float-word-requires-2 c κs = search needs
+
+float-word-requires-3 : tie.Need-float-word-requires-3
+float-word-requires-3 c κs = search needs
+
+float-word-requires-4 : tie.Need-float-word-requires-4
+float-word-requires-4 c κs = search needs
+
+float-word-requires-5 : tie.Need-float-word-requires-5
+float-word-requires-5 c κs = search needs
+
+float-word-requires-6 : tie.Need-float-word-requires-6
+float-word-requires-6 c κs = search needs
+
+cast-t9 : tie.Need-cast-t9
+cast-t9 c = search needs
+
+cast-t10 : tie.Need-cast-t10
+cast-t10 c = search needs
+
+float-word-requires-7 : tie.Need-float-word-requires-7
+float-word-requires-7 c κs = search needs
+
+returns : tie.Need-returns
+unfolding settingsWords settingsOf configurationOf
+returns c =
+    let s = c .before .before .before .before .before .before .before .before .before .before .args .s in
+    let f : s .«reference_frames» % 65536 ≡ s .«reference_frames» = mod-eq-of-lt (search needs) in
+    let b : s .«reference_bands» % 65536 ≡ s .«reference_bands» = mod-eq-of-lt (search needs) in
+    (simp (c .before .before .before .before .before .before .before .before .float-word .ensures .0, c .before .before .before .before .before .before .before .float-word2 .ensures .0, c .before .before .before .before .before .before .float-word3 .ensures .0, c .before .before .before .before .before .float-word4 .ensures .0, c .before .before .before .before .float-word5 .ensures .0, c .before .before .before .float-word6 .ensures .0, c .float-word7 .ensures .0), simp (f, b, c .before .before .before .before .before .before .before .before .float-word .ensures .1, c .before .before .before .before .before .before .before .float-word2 .ensures .1, c .before .before .before .before .before .before .float-word3 .ensures .1, c .before .before .before .before .before .float-word4 .ensures .1, c .before .before .before .before .float-word5 .ensures .1, c .before .before .before .float-word6 .ensures .1, c .float-word7 .ensures .1))
+
+pub settings-words-spec : {M : Type 1} → statement M
+settings-words-spec =
+    tie.close
+    (tie.spec
+    float-word-requires
+    float-word-requires-2
+    float-word-requires-3
+    float-word-requires-4
+    float-word-requires-5
+    float-word-requires-6
+    cast-t9
+    cast-t10
+    float-word-requires-7
+    returns)

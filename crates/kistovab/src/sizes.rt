@@ -1,0 +1,93 @@
+// How long the lent slices have to be. 0 where a count is over its limit: opening or submission
+// refuses it too.
+use engine_words::snapshots::SNAPSHOT_WORDS;
+use engine_words::states::STATE_WORDS;
+
+const FRAMES_MOST: usize = 65535;
+
+const BANDS_MOST: usize = 64;
+
+const WINDOW_MOST: usize = 1024;
+
+#[no_mangle]
+pub extern "C" fn kistovab_state_words() -> usize {
+    STATE_WORDS
+}
+
+#[no_mangle]
+pub extern "C" fn kistovab_snapshot_words() -> usize {
+    SNAPSHOT_WORDS
+}
+
+#[no_mangle]
+pub extern "C" fn kistovab_fine_length(frames: usize, bands: usize) -> usize {
+    if frames > FRAMES_MOST {
+        return 0;
+    }
+    if bands > BANDS_MOST {
+        return 0;
+    }
+    bands * frames
+}
+
+#[no_mangle]
+pub extern "C" fn kistovab_coarse_length(frames: usize, bands: usize) -> usize {
+    if frames > FRAMES_MOST {
+        return 0;
+    }
+    if bands > BANDS_MOST {
+        return 0;
+    }
+    bands * (frames / 4)
+}
+
+#[no_mangle]
+pub extern "C" fn kistovab_fine_squares_length(frames: usize, bands: usize) -> usize {
+    if frames > FRAMES_MOST {
+        return 0;
+    }
+    if bands > BANDS_MOST {
+        return 0;
+    }
+    bands * (frames + 1)
+}
+
+#[no_mangle]
+pub extern "C" fn kistovab_coarse_squares_length(frames: usize, bands: usize) -> usize {
+    if frames > FRAMES_MOST {
+        return 0;
+    }
+    if bands > BANDS_MOST {
+        return 0;
+    }
+    bands * (frames / 4 + 1)
+}
+
+#[no_mangle]
+pub extern "C" fn kistovab_work32_length(frames: usize, bands: usize) -> usize {
+    if frames > WINDOW_MOST {
+        return 0;
+    }
+    if bands > BANDS_MOST {
+        return 0;
+    }
+    2 * bands * frames
+}
+
+#[no_mangle]
+pub extern "C" fn kistovab_work64_length(
+    frames: usize,
+    bands: usize,
+    reference_frames: usize,
+) -> usize {
+    if frames > WINDOW_MOST {
+        return 0;
+    }
+    if bands > BANDS_MOST {
+        return 0;
+    }
+    if reference_frames > FRAMES_MOST {
+        return 0;
+    }
+    3 * bands * (frames + 1) + reference_frames
+}
