@@ -1,9 +1,4 @@
 pub mod Session
-pub mod Tracked
-pub mod LostAndFound
 pub mod ByAChain
-pub mod Jumped
-pub mod Withheld
-pub mod WithoutIndex
 pub mod Computed
 pub mod NotEmpty

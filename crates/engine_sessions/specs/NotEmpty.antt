@@ -23,8 +23,9 @@ pub record Locks (s : Session) : Type 0 where
   pub handed : AllHanded (openedSettings (s .configuration) (s .hop) (s .film)) (matcherOfFilm (s .hop) (s .film)) (submissions (s .turns))
   -- so all is promised of the list,
   pub promised : Promised (engineOf s) (matcherOfFilm (s .hop) (s .film)) (submissions (s .turns))
-  -- its first remaining answer is Locked,
-  pub some : 0 < length (left s)
-  pub locked : getD (left s) 0 unanswered .snapshot .state ≡ state.Locked
-  -- and therefore ends a chain
-  pub chain : OnChain (engineOf s .settings .«hop_ms») (λ (k : ℕ). getD (left s) k unanswered) 0
+  -- its third remaining answer is not Locked yet, its fourth is,
+  pub some : 3 < length (left s)
+  pub locking : getD (left s) 2 unanswered .snapshot .state ≡ state.Locking
+  pub locked : getD (left s) 3 unanswered .snapshot .state ≡ state.Locked
+  -- and so it is on a chain
+  pub chain : OnChain (engineOf s .settings .«hop_ms») (λ (k : ℕ). getD (left s) k unanswered) 3

@@ -52,16 +52,6 @@ impl Rows {
         Self(self.0.iter().map(worn).collect())
     }
 
-    /// Two sounds at once: the level between.
-    pub fn with(&self, other: &Self) -> Self {
-        let between = |(a, b): (&usize, &usize)| (a + b) / 2;
-        let both = self.0.iter().zip(&other.0);
-        Self(
-            both.map(|(a, b)| a.iter().zip(b).map(between).collect())
-                .collect(),
-        )
-    }
-
     /// So many frames of this, then the other's.
     pub fn until(&self, frame: usize, other: &Self) -> Self {
         let both = self.0.iter().zip(&other.0);
@@ -95,17 +85,6 @@ impl Rows {
 }
 
 impl Window {
-    /// The same energy in all frames.
-    pub fn at_energy(mut self, energy: f64) -> Self {
-        self.energies.fill(energy);
-        self
-    }
-
-    pub fn at_times(mut self, times: &[f64]) -> Self {
-        self.times = times.to_vec();
-        self
-    }
-
     pub fn submitted(self, clock: f64, shows: &'static str) -> Submission {
         Submission {
             shows,
