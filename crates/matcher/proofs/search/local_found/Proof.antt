@@ -49,7 +49,7 @@ local-candidates-requires c κs =
     let less = query-room {bands = a .reference .bands} frames (frames - 2 * r .result) (omega arith) (omega arith) in
     let work32 = rw (room .0) at (p .1 .1 .1 .1 .1 .1 .0) in
     let work64 = rw (room .0) at (p .1 .1 .1 .1 .1 .1 .1 .0) in
-    (omega arith, (omega arith, (omega arith, (omega arith, (omega arith, (omega arith, (omega arith, omega arith)))))))
+    (p .1 .1 .0, (omega arith, (omega arith, (p .1 .1 .1 .0, (p .1 .1 .1 .1 .0, (p .1 .1 .1 .1 .1 .0, (omega arith, omega arith)))))))
 
 returns-2 : tie.Need-returns-2
 returns-2 c =

@@ -22,10 +22,7 @@ slice-aggregate-best-candidate-3 c = let p = c .before .before .before .before .
 
 best-candidate-requires : tie.Need-best-candidate-requires
 best-candidate-requires c κs =
-    let p = c .before .before .before .before .before .before .before .before .before .before .pre in (
-      omega arith,
-      (omega arith, (omega arith, (omega arith, (simp length-take (omega arith), (simp length-take (omega arith), (simp length-take (omega arith), (omega arith, (omega arith, omega arith)))))))),
-    )
+    let p = c .before .before .before .before .before .before .before .before .before .before .pre in (p .0, (p .1 .1 .0, (p .1 .1 .1 .0, (p .1 .1 .1 .1 .0, (simp length-take (omega arith), (simp length-take (omega arith), (simp length-take (omega arith), (omega arith, (p .1 .1 .1 .1 .1 .1 .1 .1, p .1 .0)))))))))
 
 returns : tie.Need-returns
 returns c =

@@ -52,10 +52,7 @@ candidates-around-requires c κs =
     let kept : length w ≡ length (a .work32 .now) = c .before .before .before .before .before .before .before .before .query-peaks .kept .1 .1 .1 .1 .0 in
     let fits : end ≤ length w = omega arith in
     let query : end ≤ length (take end w) = omega (arith, length-take-le end w fits) in
-    let found = c .before .before .before .before .before .before .before .before .query-peaks .ensures in (
-      omega arith,
-      (omega arith, (omega arith, (found .0, (simp length-take (omega arith), (simp length-take (omega arith), (query, (omega arith, (omega arith, (omega arith, found .1 .1 .0))))))))),
-    )
+    let found = c .before .before .before .before .before .before .before .before .query-peaks .ensures in (p .0, (p .1 .1 .0, (p .1 .1 .1 .0, (found .0, (simp length-take (omega arith), (simp length-take (omega arith), (query, (omega arith, (omega arith, (p .1 .0, found .1 .1 .0))))))))))
 
 returns : tie.Need-returns
 unfolding wholeFound
