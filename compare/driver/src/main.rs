@@ -19,7 +19,7 @@ const USAGE: &str = "\
 usage: run [--quick | --bench | --list | --matcher-list | --sessions | --samples]
        run --engine [--quick]
        run --session NUMBER
-       run --mutants
+       run --mutants [WORDS OF A NAME]
        run --repeat (whole | local | opening) (ours | replaced | own)";
 
 fn main() -> ExitCode {
@@ -31,7 +31,9 @@ fn main() -> ExitCode {
         ["--engine"] => verdict(engine::check::check(Effort::full())),
         ["--engine", "--quick"] => verdict(engine::check::check(Effort::QUICK)),
         #[cfg(feature = "mutants")]
-        ["--mutants"] => print_mutants(),
+        ["--mutants"] => print_mutants(""),
+        #[cfg(feature = "mutants")]
+        ["--mutants", words] => print_mutants(words),
         ["--session", number] => match number.parse() {
             Ok(number) => print(&engine::check::shown(number)),
             Err(_) => usage(),
@@ -76,8 +78,8 @@ fn verdict(same: bool) -> ExitCode {
 }
 
 #[cfg(feature = "mutants")]
-fn print_mutants() -> ExitCode {
-    let (table, all) = engine::mutants::table(Effort::full());
+fn print_mutants(words: &str) -> ExitCode {
+    let (table, all) = engine::mutants::table(Effort::full(), words);
     let printed = print(&table);
     if all {
         printed
