@@ -16,7 +16,7 @@ use std::process::ExitCode;
 use std::{env, io};
 
 const USAGE: &str = "\
-usage: run [--quick | --bench | --list | --matcher-list | --sessions | --samples]
+usage: run [--quick | --bench | --bench-engine | --list | --matcher-list | --sessions | --samples]
        run --engine [--quick]
        run --session NUMBER
        run --mutants [WORDS OF A NAME]
@@ -39,6 +39,7 @@ fn main() -> ExitCode {
             Err(_) => usage(),
         },
         ["--bench"] => print(&(numbers::bench::table() + "\n" + &matcher::bench::table())),
+        ["--bench-engine"] => print(&engine::bench::table()),
         ["--repeat", operation, side] => match matcher::bench::repeat(operation, side) {
             Some(line) => print(&line),
             None => usage(),
