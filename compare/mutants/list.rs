@@ -188,7 +188,8 @@ pub const MUTANTS: &[Mutant] = &[
     engine("the snapshot is not kept", "        self.last_snapshot = Some(snapshot.clone());\n", ""),
     // ---- energy
     engine("half the level", "frame.energy_dbfs / 10.0", "frame.energy_dbfs / 20.0"),
-    engine("the Rust's own power", "crate::replaced::ten_to(frame.energy_dbfs / 10.0)", "10.0_f64.powf(frame.energy_dbfs / 10.0)").same("seen only in a mean energy within rounding of its threshold, which nothing shows"),
+    engine("the Rust's own power", "crate::replaced::ten_to(frame.energy_dbfs / 10.0)", "10.0_f64.powf(frame.energy_dbfs / 10.0)"),
+    engine("the Rust's own log10", "crate::replaced::log10(mean_power)", "mean_power.log10()"),
     engine("no power has a level", "if mean_power > 0.0 {", "if mean_power >= 0.0 {"),
     // ---- the matcher: margin and index
     matcher("a lone margin of 0", "best.score - self.candidates.get(1).map_or(0.0, |next| next.score)", "best.score - self.candidates.get(1).map_or(best.score, |next| next.score)"),
@@ -238,6 +239,7 @@ pub const MUTANTS: &[Mutant] = &[
     // ---- timelines and centring
     matcher("one frame is a timeline", "frames.len() <= 1", "frames.is_empty()"),
     matcher("a step off by exactly the tolerance", "(delta - hop_ms).abs() >= hop_ms * 0.05", "(delta - hop_ms).abs() > hop_ms * 0.05"),
+    matcher("a place off by exactly the tolerance", "(frames[i].recorded_time_ms - expected).abs() >= hop_ms * 0.05", "(frames[i].recorded_time_ms - expected).abs() > hop_ms * 0.05"),
     matcher("steps only", "            || (frames[i].recorded_time_ms - expected).abs() >= hop_ms * 0.05\n", ""),
     matcher("places only", "            || (delta - hop_ms).abs() >= hop_ms * 0.05\n", ""),
     matcher("a tolerance of 0.06", "(delta - hop_ms).abs() >= hop_ms * 0.05", "(delta - hop_ms).abs() >= hop_ms * 0.06"),

@@ -16,10 +16,10 @@ use std::process::ExitCode;
 use std::{env, io};
 
 const USAGE: &str = "\
-usage: run [--quick | --bench | --list | --matcher-list | --sessions | --samples]
+usage: run [--quick | --bench | --bench-engine | --list | --matcher-list | --sessions | --samples]
        run --engine [--quick]
        run --session NUMBER
-       run --mutants
+       run --mutants [WORDS OF A NAME]
        run --repeat (whole | local | opening) (ours | replaced | own)";
 
 fn main() -> ExitCode {
@@ -31,12 +31,15 @@ fn main() -> ExitCode {
         ["--engine"] => verdict(engine::check::check(Effort::full())),
         ["--engine", "--quick"] => verdict(engine::check::check(Effort::QUICK)),
         #[cfg(feature = "mutants")]
-        ["--mutants"] => print_mutants(),
+        ["--mutants"] => print_mutants(""),
+        #[cfg(feature = "mutants")]
+        ["--mutants", words] => print_mutants(words),
         ["--session", number] => match number.parse() {
             Ok(number) => print(&engine::check::shown(number)),
             Err(_) => usage(),
         },
         ["--bench"] => print(&(numbers::bench::table() + "\n" + &matcher::bench::table())),
+        ["--bench-engine"] => print(&engine::bench::table()),
         ["--repeat", operation, side] => match matcher::bench::repeat(operation, side) {
             Some(line) => print(&line),
             None => usage(),
@@ -76,8 +79,8 @@ fn verdict(same: bool) -> ExitCode {
 }
 
 #[cfg(feature = "mutants")]
-fn print_mutants() -> ExitCode {
-    let (table, all) = engine::mutants::table(Effort::full());
+fn print_mutants(words: &str) -> ExitCode {
+    let (table, all) = engine::mutants::table(Effort::full(), words);
     let printed = print(&table);
     if all {
         printed

@@ -145,3 +145,12 @@ running!(crate::own::engine);
 pub fn open(frames: &[FeatureFrame], hop: f64, configuration: Configuration) -> Box<dyn Running> {
     Box::new(crate::engine::Engine::new(frames, hop, configuration))
 }
+
+/// With its own functions, for measuring only.
+pub fn open_own(
+    frames: &[FeatureFrame],
+    hop: f64,
+    configuration: Configuration,
+) -> Box<dyn Running> {
+    Box::new(crate::own::engine::Engine::new(frames, hop, configuration))
+}

@@ -2,10 +2,11 @@
 //! the ends of what refusal 7 lets pass.
 
 use super::both::{Both, Opened};
-use super::generate;
 use super::ours::COMPUTED;
 use super::reading;
+use super::theirs::Seen;
 use super::words::{MOST_CANDIDATES, PHASES, REASONS, STAGES, STATES};
+use super::{generate, kinds};
 use crate::compare::Effort;
 use crate::family::pattern;
 use crate::random::Random;
@@ -34,6 +35,7 @@ struct Tally {
     eight: AtomicU64,
     carried: AtomicU64,
     supported: AtomicU64,
+    at_80: AtomicU64,
 }
 
 pub fn check(effort: Effort) -> bool {
@@ -82,6 +84,7 @@ fn told(tally: &Tally) -> bool {
         ("eight candidates read again", &tally.eight),
         ("a made pending carried", &tally.carried),
         ("a made track supported", &tally.supported),
+        ("a peak exactly 80 from a made place", &tally.at_80),
     ];
     for (name, count) in &reached {
         let count = read(count);
@@ -125,7 +128,13 @@ fn run(open: Open, number: u64, tally: &Tally) -> Result<(), String> {
             )
         })?;
         note(tally, &seen);
-        if seen.code == 7 {
+        if let Some(kept) = beside(&mut random, &seen) {
+            let settings = both.theirs.settings;
+            both.set(settings, kept);
+            both.submit(submission)
+                .map_err(|what| format!("{what}, of a place 80 away"))?;
+            tally.at_80.fetch_add(1, Relaxed);
+        } else if seen.code == 7 {
             // Nothing more comes of it.
             let settings = both.theirs.settings;
             both.set(settings, Kept::FRESH);
@@ -134,7 +143,7 @@ fn run(open: Open, number: u64, tally: &Tally) -> Result<(), String> {
     Ok(())
 }
 
-fn note(tally: &Tally, seen: &super::theirs::Seen) {
+fn note(tally: &Tally, seen: &Seen) {
     let add = |count: &AtomicU64, reached: bool| {
         count.fetch_add(u64::from(reached), Relaxed);
     };
@@ -210,6 +219,26 @@ fn made(random: &mut Random, old: Kept) -> Kept {
         _ => {}
     }
     kept
+}
+
+/// A state whose places lie exactly 80 from the best peak of a window, for the same window again.
+fn beside(random: &mut Random, seen: &Seen) -> Option<Kept> {
+    let snapshot = seen.snapshot.as_ref()?;
+    let best = snapshot.diagnostics.candidates.first()?.offset_ms;
+    let place = best + random.one_of(&[80.0, -80.0]);
+    if (best - place).abs() != 80.0 {
+        return None;
+    }
+    let evidence = kinds::evidence(seen);
+    let mut kept = seen.after.clone();
+    // With a last snapshot it would be a re-reading.
+    kept.last_snapshot = None;
+    kept.last_global_search_ms = f64::NEG_INFINITY;
+    let pending = evidence - random.one_of(&[0.0, 500.0, 1_000.0, 2_500.0]);
+    let accepted = evidence - random.one_of(&[0.0, 0.0, 500.0, 1_500.0]);
+    kept.pending = (!random.one_in(3)).then_some([place, pending - 1_000.0, pending, 0.5]);
+    kept.accepted = random.one_in(2).then_some([place, accepted, accepted, 0.5]);
+    Some(kept)
 }
 
 fn offset_of(kept: &Kept) -> f64 {

@@ -2,6 +2,7 @@
 //! altered indexes.
 
 mod altered;
+pub mod bench;
 mod both;
 pub mod check;
 mod generate;

@@ -21,21 +21,26 @@ const HEAD: &str = "\
 /// What tells a mutant: where, and what differs.
 type Told = Option<(String, String)>;
 
-/// The table, and whether all are told but those that nothing can tell.
-pub fn table(effort: Effort) -> (String, bool) {
+/// The table of those whose name has the words given, and whether all are told but those that
+/// nothing can tell.
+pub fn table(effort: Effort, words: &str) -> (String, bool) {
     // A mutant may look outside its arrays: that tells it too, and needs no report.
     panic::set_hook(Box::new(|_| {}));
+    let chosen = |mutant: &&Mutant| mutant.name.contains(words);
+    let mutants: Vec<&Mutant> = MUTANTS.iter().filter(chosen).collect();
     let next = AtomicUsize::new(0);
-    let told: Vec<Mutex<Told>> = MUTANTS.iter().map(|_| Mutex::new(None)).collect();
-    let progress = Progress::new("mutants", MUTANTS.len() as u64);
-    let work = || {
-        while let Some(number) = Some(next.fetch_add(1, Relaxed)).filter(|n| *n < MUTANTS.len()) {
-            let found = by_sessions(MUTANTS[number].open).or_else(|| by_made(MUTANTS[number].open));
-            if let Ok(mut told) = told[number].lock() {
-                *told = found;
-            }
-            progress.advance(1);
+    let told: Vec<Mutex<Told>> = mutants.iter().map(|_| Mutex::new(None)).collect();
+    let progress = Progress::new("mutants", mutants.len() as u64);
+    let work = || loop {
+        let number = next.fetch_add(1, Relaxed);
+        let Some(mutant) = mutants.get(number) else {
+            return;
+        };
+        let found = by_sessions(mutant.open).or_else(|| by_made(mutant.open));
+        if let Ok(mut told) = told[number].lock() {
+            *told = found;
         }
+        progress.advance(1);
     };
     thread::scope(|scope| {
         for _ in 0..effort.threads() {
@@ -46,13 +51,13 @@ pub fn table(effort: Effort) -> (String, bool) {
         .into_iter()
         .map(|told| told.into_inner().unwrap_or(None))
         .collect();
-    shown(&told)
+    shown(&mutants, &told)
 }
 
-fn shown(told: &[Told]) -> (String, bool) {
+fn shown(mutants: &[&Mutant], told: &[Told]) -> (String, bool) {
     let mut text = String::from(HEAD);
     let (caught, all) = (AtomicU64::new(0), AtomicU64::new(0));
-    for (mutant, told) in MUTANTS.iter().zip(told) {
+    for (mutant, told) in mutants.iter().zip(told) {
         let Mutant {
             name, file, same, ..
         } = mutant;
@@ -67,7 +72,7 @@ fn shown(told: &[Told]) -> (String, bool) {
         let _ = writeln!(text, "| {name} | {file} | {place} | {what} |");
     }
     let (caught, all) = (caught.into_inner(), all.into_inner());
-    let count = MUTANTS.len();
+    let count = mutants.len();
     let _ = writeln!(text, "\n{caught} of {count} told, {} as listed", all);
     (text, all == count as u64)
 }
@@ -86,7 +91,9 @@ fn by_made(open: Open) -> Told {
         let (_, what) = caught(run)?;
         // A state that tells the Rust itself from the port says nothing of the mutant.
         let plain = made::run_with(running::open, number);
-        plain.is_ok().then(|| (format!("made state {number}"), what))
+        plain
+            .is_ok()
+            .then(|| (format!("made state {number}"), what))
     })
 }
 

@@ -1,8 +1,8 @@
 //! The matcher of the port beside the Rust's.
 
 pub mod bench;
-mod case;
-mod cases;
+pub mod case;
+pub mod cases;
 pub mod check;
 pub mod list;
 mod ours;

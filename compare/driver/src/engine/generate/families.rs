@@ -1,10 +1,11 @@
 //! Families of sessions: those by chance, and those for corners that chance does not reach.
 
-use super::scene::{fewest, lasting, radius, ready, reference, Scene};
+use super::scene::{fewest, lasting, radius, ready, reference, regular, Scene};
 use super::sound::Sound;
 use super::steps::{refused, steps};
 use crate::engine::session::Session;
 use crate::random::Random;
+use crate::sessions::session::Soundtrack;
 use sonalign::types::Configuration;
 
 const HOPS: [f64; 22] = [
@@ -367,7 +368,9 @@ pub fn edges(mut random: Random) -> Session {
 pub fn pulses(mut random: Random) -> Session {
     let hop = random.one_of(&[250.0, 500.0, 1_000.0, 300.0]);
     let frames = fewest(hop) + random.below(12);
-    let count = frames + random.below(60);
+    // Near the reference's start an offset has bits enough to show what the clamp takes off.
+    let more = random.one_of(&[2, 4, 60]);
+    let count = frames + random.below(more);
     let film = reference(&mut random, Sound::Pulses, hop, 0.0, 1, count);
     let mut scene = Scene::new(random, hop, ready(hop, frames), film, frames, 0.0, 0.0);
     for _ in 0..14 {
@@ -383,6 +386,39 @@ pub fn pulses(mut random: Random) -> Session {
         scene.after(1_000.0);
     }
     scene.done("pulses")
+}
+
+/// References and windows, found by search among millions, where the parabola passes half a frame by
+/// rounding and the offset shows it. Levels by digit: 5 stands for 0.5.
+const PAST_HALF: [(&str, &str); 4] = [
+    ("3300003300030000000000000", "00003330000000000000033"),
+    ("0033000000000000005500033", "000000110000000000300000"),
+    ("00030000001150000000", "00000055000000110033"),
+    ("000000300500033000000000000", "0000000000003330011050000"),
+];
+
+pub fn past_half(random: Random, turn: u64) -> Session {
+    let (film, heard) = PAST_HALF[turn as usize % PAST_HALF.len()];
+    let levels = |digits: &str| -> Vec<f32> {
+        let level = |digit: u8| match digit {
+            b'5' => 0.5,
+            _ => f32::from(digit - b'0'),
+        };
+        digits.bytes().map(level).collect()
+    };
+    let hop = 250.0;
+    let reference = Soundtrack {
+        bands: 1,
+        times: regular(0.0, hop, film.len()),
+        values: levels(film),
+    };
+    let frames = heard.len();
+    let configuration = ready(hop, frames);
+    let mut scene = Scene::new(random, hop, configuration, reference, frames, 0.0, 0.0);
+    let mut window = scene.heard(frames);
+    window.values = levels(heard);
+    scene.submit("a parabola past half a frame", window);
+    scene.done("past half a frame")
 }
 
 /// Values from subnormal to the largest.

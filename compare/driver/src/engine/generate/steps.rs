@@ -200,10 +200,26 @@ fn off_its_places(scene: &mut Scene) -> Window {
     let hop = scene.hop();
     let mut window = scene.heard(scene.frames);
     let at = scene.random.below(scene.frames);
-    match scene.random.below(5) {
+    if scene.random.one_in(4) {
+        // Which reason comes first then shows.
+        window.energies.fill(-300.0);
+    }
+    match scene.random.below(8) {
         0 => window.times[at] += hop * 0.05,
         1 => window.times[at] += hop * 0.049_999,
         2 => window.times[at] -= hop * 0.024,
+        5 if at > 0 => {
+            // A step off by the tolerance between places that are within it.
+            window.times[at - 1] -= hop * 0.025;
+            window.times[at] += hop * 0.025;
+        }
+        6 if at > 0 => {
+            // A place off by the tolerance behind steps that are within it.
+            window.times[at - 1] += hop * 0.025;
+            for time in &mut window.times[at..] {
+                *time += hop * 0.05;
+            }
+        }
         3 => {
             for (i, time) in window.times.iter_mut().enumerate() {
                 *time += i as f64 * hop * 0.001;

@@ -1,7 +1,7 @@
 //! Opening, whole and local search of the port beside the two builds of the Rust, as the tables for
 //! docs/BENCHMARKS.md.
 
-mod clock;
+pub mod clock;
 mod instructions;
 mod rounds;
 mod sides;
