@@ -1,5 +1,17 @@
 // The calls: open, submit, support age. Words too short are answered first, and then nothing is
 // written.
+ghost use lib.ListN.{length};
+ghost use mathlib.Core.Bool.{false};
+ghost use mathlib.Core.Path.{_≡_};
+ghost use Rattle.engine.specs.Trust.{Guaranteed};
+ghost use Rattle.engine_layout.specs.Layout.{stateIn};
+ghost use Rattle.engine_spec.specs.Lent.{film, handed, lent, window};
+ghost use Rattle.engine_spec.specs.Opening.{openedIndex, opening};
+ghost use Rattle.engine_spec.specs.Submitting.{submit};
+ghost use Rattle.engine_spec.specs.SupportAge.{supportAge};
+ghost use Rattle.kistovab.specs.Calls.{Opens, Submits, ageAfter, ageCode, configured, indexAfter, openCode, submitCode};
+ghost use Rattle.kistovab.specs.Codes.{answers};
+use crate::codes::COMPUTED;
 use crate::codes::NO_AGE;
 use crate::codes::WORDS_TOO_SHORT;
 use crate::codes::code_of;
@@ -33,7 +45,12 @@ pub extern "C" fn kistovab_open(
     fine_squares: &mut [f64],
     coarse_squares: &mut [f64],
     state: &mut [u64],
-) -> u32 {
+) -> u32
+    ensures { λ r. ⌜ r ≡ openCode (length (now (state .entry))) (opening (configured «minimum_readiness_duration_ms» «tracking_query_duration_ms» «minimum_active_frame_energy_dbfs» «minimum_average_energy_dbfs» «minimum_active_frame_fraction») «hop_ms» (film bands (now (times .entry)) (now (values .entry))) (lent (now (fine .entry)) (now (coarse .entry)) (now («fine_squares» .entry)) (now («coarse_squares» .entry)))) ⌝ }
+    ensures words { λ r. ⌜ Opens r (opening (configured «minimum_readiness_duration_ms» «tracking_query_duration_ms» «minimum_active_frame_energy_dbfs» «minimum_average_energy_dbfs» «minimum_active_frame_fraction») «hop_ms» (film bands (now (times .entry)) (now (values .entry))) (lent (now (fine .entry)) (now (coarse .entry)) (now («fine_squares» .entry)) (now («coarse_squares» .entry)))) (now (state .entry)) (now (state .exit)) ⌝ }
+    ensures index { λ r. ⌜ lent (now (fine .exit)) (now (coarse .exit)) (now («fine_squares» .exit)) (now («coarse_squares» .exit)) ≡ indexAfter (length (now (state .entry))) (openedIndex (configured «minimum_readiness_duration_ms» «tracking_query_duration_ms» «minimum_active_frame_energy_dbfs» «minimum_average_energy_dbfs» «minimum_active_frame_fraction») «hop_ms» (film bands (now (times .entry)) (now (values .entry))) (lent (now (fine .entry)) (now (coarse .entry)) (now («fine_squares» .entry)) (now («coarse_squares» .entry)))) (lent (now (fine .entry)) (now (coarse .entry)) (now («fine_squares» .entry)) (now («coarse_squares» .entry))) ⌝ }
+    ensures guarantee { λ r. ⌜ (r ≡ 0 → Guaranteed (configured «minimum_readiness_duration_ms» «tracking_query_duration_ms» «minimum_active_frame_energy_dbfs» «minimum_average_energy_dbfs» «minimum_active_frame_fraction») «hop_ms» (film bands (now (times .entry)) (now (values .entry))) (lent (now (fine .exit)) (now (coarse .exit)) (now («fine_squares» .exit)) (now («coarse_squares» .exit))) (opening (configured «minimum_readiness_duration_ms» «tracking_query_duration_ms» «minimum_active_frame_energy_dbfs» «minimum_average_energy_dbfs» «minimum_active_frame_fraction») «hop_ms» (film bands (now (times .entry)) (now (values .entry))) (lent (now (fine .entry)) (now (coarse .entry)) (now («fine_squares» .entry)) (now («coarse_squares» .entry))))) ⌝ }
+{
     if state.len() < STATE_WORDS {
         return WORDS_TOO_SHORT;
     }
@@ -80,7 +97,12 @@ pub extern "C" fn kistovab_submit(
     work32: &mut [f32],
     work64: &mut [f64],
     snapshot: &mut [u64],
-) -> u32 {
+) -> u32
+    ensures { λ r. ⌜ r ≡ submitCode (length (now (state .entry))) (length (now (snapshot .entry))) (submit (stateIn (now (state .entry))) (handed (lent (now (fine .entry)) (now (coarse .entry)) (now («fine_squares» .entry)) (now («coarse_squares» .entry))) (window bands (now (times .entry)) (now (energies .entry)) (now (values .entry))) (record { 0 = «clock_ms» }) (length (now (work32 .entry))) (length (now (work64 .entry))))) ⌝ }
+    ensures words { λ r. ⌜ Submits r (submit (stateIn (now (state .entry))) (handed (lent (now (fine .entry)) (now (coarse .entry)) (now («fine_squares» .entry)) (now («coarse_squares» .entry))) (window bands (now (times .entry)) (now (energies .entry)) (now (values .entry))) (record { 0 = «clock_ms» }) (length (now (work32 .entry))) (length (now (work64 .entry))))) (now (state .entry)) (now (state .exit)) (now (snapshot .entry)) (now (snapshot .exit)) ⌝ }
+    ensures untouched { λ r. ⌜ (answers r ≡ false → (now (work32 .exit) ≡ now (work32 .entry)) × (now (work64 .exit) ≡ now (work64 .entry))) ⌝ }
+    ensures lengths { λ r. ⌜ (length (now (work32 .exit)) ≡ length (now (work32 .entry))) × (length (now (work64 .exit)) ≡ length (now (work64 .entry))) ⌝ }
+{
     if state.len() < STATE_WORDS {
         return WORDS_TOO_SHORT;
     }
@@ -118,7 +140,10 @@ pub extern "C" fn kistovab_submit(
 
 // Where there is no age, `age` is left as it is.
 #[no_mangle]
-pub extern "C" fn kistovab_support_age(state: &[u64], age: &mut f64) -> u32 {
+pub extern "C" fn kistovab_support_age(state: &[u64], age: &mut f64) -> u32
+    ensures { λ r. ⌜ r ≡ ageCode (length (now (state .entry))) (supportAge (stateIn (now (state .entry)))) ⌝ }
+    ensures number { λ r. ⌜ now (age .exit) ≡ ageAfter (length (now (state .entry))) (supportAge (stateIn (now (state .entry)))) (now (age .entry)) ⌝ }
+{
     if state.len() < STATE_WORDS {
         return WORDS_TOO_SHORT;
     }
@@ -133,7 +158,7 @@ pub extern "C" fn kistovab_support_age(state: &[u64], age: &mut f64) -> u32 {
         Maybe::Absent => NO_AGE,
         Maybe::Is(x) => {
             *age = x;
-            code_of(answer)
+            COMPUTED
         }
     }
 }

@@ -1,5 +1,8 @@
 // How long the lent slices have to be. 0 where a count is over its limit: opening or submission
 // refuses it too.
+ghost use mathlib.Core.Path.{_≡_};
+ghost use Rattle.engine_layout.specs.Layout.{snapshotWords, stateWords};
+ghost use Rattle.kistovab.specs.Sizes.{coarseLength, coarseSquaresLength, fineLength, fineSquaresLength, work32Length, work64Length};
 use engine_words::snapshots::SNAPSHOT_WORDS;
 use engine_words::states::STATE_WORDS;
 
@@ -10,17 +13,23 @@ const BANDS_MOST: usize = 64;
 const WINDOW_MOST: usize = 1024;
 
 #[no_mangle]
-pub extern "C" fn kistovab_state_words() -> usize {
+pub extern "C" fn kistovab_state_words() -> usize
+    ensures { λ r. ⌜ r ≡ stateWords ⌝ }
+{
     STATE_WORDS
 }
 
 #[no_mangle]
-pub extern "C" fn kistovab_snapshot_words() -> usize {
+pub extern "C" fn kistovab_snapshot_words() -> usize
+    ensures { λ r. ⌜ r ≡ snapshotWords ⌝ }
+{
     SNAPSHOT_WORDS
 }
 
 #[no_mangle]
-pub extern "C" fn kistovab_fine_length(frames: usize, bands: usize) -> usize {
+pub extern "C" fn kistovab_fine_length(frames: usize, bands: usize) -> usize
+    ensures { λ r. ⌜ r ≡ fineLength frames bands ⌝ }
+{
     if frames > FRAMES_MOST {
         return 0;
     }
@@ -31,7 +40,9 @@ pub extern "C" fn kistovab_fine_length(frames: usize, bands: usize) -> usize {
 }
 
 #[no_mangle]
-pub extern "C" fn kistovab_coarse_length(frames: usize, bands: usize) -> usize {
+pub extern "C" fn kistovab_coarse_length(frames: usize, bands: usize) -> usize
+    ensures { λ r. ⌜ r ≡ coarseLength frames bands ⌝ }
+{
     if frames > FRAMES_MOST {
         return 0;
     }
@@ -42,7 +53,9 @@ pub extern "C" fn kistovab_coarse_length(frames: usize, bands: usize) -> usize {
 }
 
 #[no_mangle]
-pub extern "C" fn kistovab_fine_squares_length(frames: usize, bands: usize) -> usize {
+pub extern "C" fn kistovab_fine_squares_length(frames: usize, bands: usize) -> usize
+    ensures { λ r. ⌜ r ≡ fineSquaresLength frames bands ⌝ }
+{
     if frames > FRAMES_MOST {
         return 0;
     }
@@ -53,7 +66,9 @@ pub extern "C" fn kistovab_fine_squares_length(frames: usize, bands: usize) -> u
 }
 
 #[no_mangle]
-pub extern "C" fn kistovab_coarse_squares_length(frames: usize, bands: usize) -> usize {
+pub extern "C" fn kistovab_coarse_squares_length(frames: usize, bands: usize) -> usize
+    ensures { λ r. ⌜ r ≡ coarseSquaresLength frames bands ⌝ }
+{
     if frames > FRAMES_MOST {
         return 0;
     }
@@ -64,7 +79,9 @@ pub extern "C" fn kistovab_coarse_squares_length(frames: usize, bands: usize) ->
 }
 
 #[no_mangle]
-pub extern "C" fn kistovab_work32_length(frames: usize, bands: usize) -> usize {
+pub extern "C" fn kistovab_work32_length(frames: usize, bands: usize) -> usize
+    ensures { λ r. ⌜ r ≡ work32Length frames bands ⌝ }
+{
     if frames > WINDOW_MOST {
         return 0;
     }
@@ -79,7 +96,9 @@ pub extern "C" fn kistovab_work64_length(
     frames: usize,
     bands: usize,
     reference_frames: usize,
-) -> usize {
+) -> usize
+    ensures { λ r. ⌜ r ≡ work64Length frames bands «reference_frames» ⌝ }
+{
     if frames > WINDOW_MOST {
         return 0;
     }

@@ -1,34 +1,32 @@
+use borrow.Author.Tests.{le-leb, lt-leb}
+use Rattle.kistovab.specs.Sizes.{coarseSquaresLength}
 use Prim.Native.Nat.{_+_, _*_, _/_, _≤_}
 use Rattle.kistovab.proofs.SizeLaws.{few}
 use native.Mathlib.Omega.{arith}
 use borrow.Author.Needs.{needs}
 use Rattle.kistovab.proofs.sizes.kistovab_coarse_squares_length.Statement.{statement}
 use Rattle.kistovab.proofs.sizes.kistovab_coarse_squares_length.Tie as tie
-use Rattle.kistovab.proofs.sizes.kistovab_coarse_squares_length.Reads as reads
-use Rattle.kistovab.proofs.sizes.kistovab_coarse_squares_length.Lts as lts
 
--- src/sizes.rt:56:9
 returns : tie.Need-returns
-returns c = search needs
+unfolding coarseSquaresLength
+returns c = simp (lt-leb _ _ (c .if1 .taken))
 
--- src/sizes.rt:59:9
 returns-2 : tie.Need-returns-2
-returns-2 c = search needs
+unfolding coarseSquaresLength
+returns-2 c = simp (le-leb _ _ (c .before .if1 .left), lt-leb _ _ (c .if2 .taken))
 
--- src/sizes.rt:61:14
 add-result : tie.Need-add-result
 add-result c = search needs
 
--- src/sizes.rt:61:5
 mul-result : tie.Need-mul-result
 mul-result c =
     let a = c .before .before .args in
     let h = few (a .bands) 64 ((a .frames / 4 + 1)) 65536 (omega arith) (omega arith) in
     omega arith
 
--- src/sizes.rt:53:1
 returns-3 : tie.Need-returns-3
-returns-3 c = search needs
+unfolding coarseSquaresLength
+returns-3 c = simp (le-leb _ _ (c .before .if1 .left), le-leb _ _ (c .if2 .left))
 
 pub kistovab-coarse-squares-length-spec : {M : Type 1} → statement M
 kistovab-coarse-squares-length-spec =

@@ -1,0 +1,113 @@
+use Rattle.kistovab.specs.Calls.{configured}
+use native.Mathlib.Omega.{arith}
+use Rattle.kistovab.proofs.CallLaws.{short-code, short-index, short-opens, open-code, index-after, refused-opens, opened-opens, opened-zero, guaranteed-of}
+use Rattle.engine_spec.specs.Refusals.{Submission, refuses}
+use Rattle.engine_spec.specs.Lent.{film, handed, lent, window}
+use mathlib.Core.Bool.{Bool, true, false}
+use lib.ListN.{length}
+use borrow.Author.Tests.{lt-ltb, le-ltb}
+use mathlib.Core.Path.{_≡_, refl, sym, ap, _∙_}
+use borrow.Author.Needs.{needs}
+use Rattle.kistovab.proofs.calls.kistovab_open.Statement.{statement}
+use Rattle.kistovab.proofs.calls.kistovab_open.Tie as tie
+use Rattle.kistovab.proofs.calls.kistovab_open.Reads as reads
+use Rattle.kistovab.proofs.calls.kistovab_open.Lts as lts
+use Rattle.engine.proofs.calls.open.Reads as open-reads
+use Rattle.engine_refusals.proofs.handed.is_refusal.Reads as is-refusal-reads
+use Rattle.engine_words.proofs.states.write_state.Reads as write-state-reads
+use Rattle.kistovab.proofs.codes.code_of.Reads as code-of-reads
+
+returns : tie.Need-returns
+returns c = (short-code _ _ (lt-ltb _ _ (c .if1 .taken)), (short-opens _ _, (short-index _ _ _ (lt-ltb _ _ (c .if1 .taken)), λ h. absurd (omega arith))))
+
+open-requires : tie.Need-open-requires
+open-requires c κs = search needs
+
+is-refusal-requires : tie.Need-is-refusal-requires
+is-refusal-requires c κs = search needs
+
+code-of-requires : tie.Need-code-of-requires
+code-of-requires c κs = search needs
+
+same-length : tie.Need-same-length
+same-length c = search needs
+
+same-length-2 : tie.Need-same-length-2
+same-length-2 c = search needs
+
+same-length-3 : tie.Need-same-length-3
+same-length-3 c = search needs
+
+same-length-4 : tie.Need-same-length-4
+same-length-4 c = search needs
+
+returns-2 : tie.Need-returns-2
+returns-2 c =
+    let a = c .before .before .before .before .before .before .before .before .before .before .before .before .before .before .before .before .before .before .before .before .before .before .before .before .args in
+    let x = lent (a .fine .now) (a .coarse .now) (a .fine-squares .now) (a .coarse-squares .now) in
+    let f = film (a .bands) (a .times .now) (a .values .now) in
+    let n = length (a .state .now) in
+    let long = le-ltb n 106 (c .before .before .before .before .before .before .before .before .before .before .before .before .before .before .before .before .if1 .left) in
+    let o = c .before .before .before .before .before .before .before .before .before .before .before .«open» .result in
+    let e = c .before .before .before .before .before .before .before .before .before .before .before .«open» .ensures .0 in
+    let refusing : refuses (o .answer) ≡ true = sym (c .before .before .is-refusal .ensures) ∙ c .before .if2 .taken in
+    let code = c .code-of .ensures in
+    (open-code n long code e, (refused-opens (a .state .now) code e refusing, (index-after n x long (c .before .before .before .before .before .before .before .before .before .before .before .«open» .ensures .1 .0), λ h. guaranteed-of e (c .before .before .before .before .before .before .before .before .before .before .before .«open» .ensures .1 .1))))
+
+write-state-requires : tie.Need-write-state-requires
+write-state-requires c κs = search needs
+
+code-of-requires-2 : tie.Need-code-of-requires-2
+code-of-requires-2 c κs = search needs
+
+same-length-5 : tie.Need-same-length-5
+same-length-5 c = search needs
+
+same-length-6 : tie.Need-same-length-6
+same-length-6 c = search needs
+
+same-length-7 : tie.Need-same-length-7
+same-length-7 c = search needs
+
+same-length-8 : tie.Need-same-length-8
+same-length-8 c = search needs
+
+same-length-9 : tie.Need-same-length-9
+same-length-9 c = search needs
+
+returns-3 : tie.Need-returns-3
+returns-3 c =
+    let a = c .before .before .before .before .before .before .before .before .before .before .before .before .before .before .before .before .before .before .before .before .before .before .before .before .before .before .before .before .before .args in
+    let x = lent (a .fine .now) (a .coarse .now) (a .fine-squares .now) (a .coarse-squares .now) in
+    let f = film (a .bands) (a .times .now) (a .values .now) in
+    let n = length (a .state .now) in
+    let long = le-ltb n 106 (c .before .before .before .before .before .before .before .before .before .before .before .before .before .before .before .before .before .before .before .before .before .if1 .left) in
+    let o = c .before .before .before .before .before .before .before .before .before .before .before .before .before .before .before .before .«open» .result in
+    let e = c .before .before .before .before .before .before .before .before .before .before .before .before .before .before .before .before .«open» .ensures .0 in
+    let answering : refuses (o .answer) ≡ false = sym (c .before .before .before .before .before .before .before .is-refusal .ensures) ∙ c .before .before .before .before .before .before .if2 .left in
+    let code = c .code-of2 .ensures in
+    let c0 = configured (a .minimum-readiness-duration-ms) (a .tracking-query-duration-ms) (a .minimum-active-frame-energy-dbfs) (a .minimum-average-energy-dbfs) (a .minimum-active-frame-fraction) in
+    let zero = code ∙ opened-zero c0 (a .hop-ms) f x e answering in
+    (open-code n long code e, (opened-opens zero e (c .before .before .before .write-state .ensures .0) (c .before .before .before .write-state .ensures .1), (index-after n x long (c .before .before .before .before .before .before .before .before .before .before .before .before .before .before .before .before .«open» .ensures .1 .0), λ h. guaranteed-of e (c .before .before .before .before .before .before .before .before .before .before .before .before .before .before .before .before .«open» .ensures .1 .1))))
+
+pub kistovab-open-spec : {M : Type 1} → statement M
+kistovab-open-spec =
+    tie.close
+    (tie.spec
+    returns
+    open-requires
+    is-refusal-requires
+    code-of-requires
+    same-length
+    same-length-2
+    same-length-3
+    same-length-4
+    returns-2
+    write-state-requires
+    code-of-requires-2
+    same-length-5
+    same-length-6
+    same-length-7
+    same-length-8
+    same-length-9
+    returns-3)

@@ -1,0 +1,176 @@
+use Prim.Native.Nat.{ℕ}
+use Rattle.engine_layout.specs.Layout.{stateIn}
+use Rattle.engine_spec.proofs.Submissions.{clash}
+use Rattle.engine_spec.specs.Guarantee.{isComputed}
+use Rattle.kistovab.specs.Codes.{answers, codeOf}
+use Rattle.kistovab.proofs.CallLaws.{few-words, few-shown, short-submits, submit-code, refused-submits, reread-submits, computed-submits, same, way-made, by-answer, answered}
+use Rattle.engine_spec.specs.Refusals.{Submission, refuses}
+use Rattle.engine_spec.specs.Lent.{film, handed, lent, window}
+use mathlib.Core.Bool.{Bool, true, false}
+use lib.ListN.{length}
+use borrow.Author.Tests.{lt-ltb, le-ltb}
+use mathlib.Core.Path.{_≡_, refl, sym, ap, _∙_}
+use borrow.Author.Needs.{needs}
+use Rattle.kistovab.proofs.calls.kistovab_submit.Statement.{statement}
+use Rattle.kistovab.proofs.calls.kistovab_submit.Tie as tie
+use Rattle.kistovab.proofs.calls.kistovab_submit.Reads as reads
+use Rattle.kistovab.proofs.calls.kistovab_submit.Lts as lts
+use Rattle.engine.proofs.calls.submit.Reads as submit-reads
+use Rattle.engine_refusals.proofs.handed.is_refusal.Reads as is-refusal-reads
+use Rattle.engine_words.proofs.snapshots.write_snapshot.Reads as write-snapshot-reads
+use Rattle.engine_words.proofs.states.read_state.Reads as read-state-reads
+use Rattle.engine_words.proofs.states.write_state.Reads as write-state-reads
+use Rattle.kistovab.proofs.codes.code_of.Reads as code-of-reads
+use Rattle.kistovab.proofs.codes.is_computed.Reads as is-computed-reads
+
+returns : tie.Need-returns
+returns c = (few-words _ _ _ (lt-ltb _ _ (c .if1 .taken)), (short-submits _ _ _, ((λ h. (refl, refl)), (refl, refl))))
+
+returns-2 : tie.Need-returns-2
+returns-2 c = (few-shown _ _ _ (le-ltb _ _ (c .before .if1 .left)) (lt-ltb _ _ (c .if2 .taken)), (short-submits _ _ _, ((λ h. (refl, refl)), (refl, refl))))
+
+read-state-requires : tie.Need-read-state-requires
+read-state-requires c κs = search needs
+
+submit-requires : tie.Need-submit-requires
+submit-requires c κs = search needs
+
+is-refusal-requires : tie.Need-is-refusal-requires
+is-refusal-requires c κs = search needs
+
+code-of-requires : tie.Need-code-of-requires
+code-of-requires c κs = search needs
+
+same-length : tie.Need-same-length
+same-length c = search needs
+
+same-length-2 : tie.Need-same-length-2
+same-length-2 c = search needs
+
+same-length-3 : tie.Need-same-length-3
+same-length-3 c = search needs
+
+returns-3 : tie.Need-returns-3
+returns-3 c =
+    let a = c .before .before .before .before .before .before .before .before .before .before .before .before .before .before .before .before .before .before .before .before .before .before .before .before .before .args in
+    let x = lent (a .fine .now) (a .coarse .now) (a .fine-squares .now) (a .coarse-squares .now) in
+    let i : Submission = handed x (window (a .bands) (a .times .now) (a .energies .now) (a .values .now)) (record { 0 = a .clock-ms }) (length (a .work32 .now)) (length (a .work64 .now)) in
+    let n = length (a .state .now) in
+    let k = length (a .snapshot .now) in
+    let s = c .before .before .before .before .before .before .before .submit .result in
+    let e = same i (c .before .before .before .before .before .before .before .before .before .before .read-state .ensures) (c .before .before .before .before .before .before .before .submit .ensures .0) in
+    let w = way-made i (c .before .before .before .before .before .before .before .before .before .before .read-state .ensures) (c .before .before .before .before .before .before .before .submit .ensures .0) in
+    let long = le-ltb n 106 (c .before .before .before .before .before .before .before .before .before .before .before .before .before .if1 .left) in
+    let wide = le-ltb k 77 (c .before .before .before .before .before .before .before .before .before .before .before .before .if2 .left) in
+    let refusing : refuses (s .answer) ≡ true = sym (c .before .before .is-refusal .ensures) ∙ c .before .if3 .taken in
+    let code = c .code-of .ensures in (
+      submit-code n k long wide code e,
+      (by-answer code e (refused-submits s (a .state .now) (a .snapshot .now) w refusing), ((λ h. c .before .before .before .before .before .before .before .submit .ensures .1 .0 refusing), c .before .before .before .before .before .before .before .submit .ensures .1 .1)),
+    )
+
+write-snapshot-requires : tie.Need-write-snapshot-requires
+write-snapshot-requires c κs = search needs
+
+is-computed-requires : tie.Need-is-computed-requires
+is-computed-requires c κs = search needs
+
+write-state-requires : tie.Need-write-state-requires
+write-state-requires c κs = search needs
+
+code-of-requires-2 : tie.Need-code-of-requires-2
+code-of-requires-2 c κs = search needs
+
+same-length-4 : tie.Need-same-length-4
+same-length-4 c = search needs
+
+same-length-5 : tie.Need-same-length-5
+same-length-5 c = search needs
+
+same-length-6 : tie.Need-same-length-6
+same-length-6 c = search needs
+
+same-length-7 : tie.Need-same-length-7
+same-length-7 c = search needs
+
+returns-4 : tie.Need-returns-4
+returns-4 c =
+    let a = c .before .before .before .before .before .before .before .before .before .before .before .before .before .before .before .before .before .before .before .before .before .before .before .before .before .before .before .before .before .before .before .before .before .before .before .before .before .args in
+    let x = lent (a .fine .now) (a .coarse .now) (a .fine-squares .now) (a .coarse-squares .now) in
+    let i : Submission = handed x (window (a .bands) (a .times .now) (a .energies .now) (a .values .now)) (record { 0 = a .clock-ms }) (length (a .work32 .now)) (length (a .work64 .now)) in
+    let n = length (a .state .now) in
+    let k = length (a .snapshot .now) in
+    let s = c .before .before .before .before .before .before .before .before .before .before .before .before .before .before .before .before .before .before .before .submit .result in
+    let e = same i (c .before .before .before .before .before .before .before .before .before .before .before .before .before .before .before .before .before .before .before .before .before .before .read-state .ensures) (c .before .before .before .before .before .before .before .before .before .before .before .before .before .before .before .before .before .before .before .submit .ensures .0) in
+    let w = way-made i (c .before .before .before .before .before .before .before .before .before .before .before .before .before .before .before .before .before .before .before .before .before .before .read-state .ensures) (c .before .before .before .before .before .before .before .before .before .before .before .before .before .before .before .before .before .before .before .submit .ensures .0) in
+    let long = le-ltb n 106 (c .before .before .before .before .before .before .before .before .before .before .before .before .before .before .before .before .before .before .before .before .before .before .before .before .before .if1 .left) in
+    let wide = le-ltb k 77 (c .before .before .before .before .before .before .before .before .before .before .before .before .before .before .before .before .before .before .before .before .before .before .before .before .if2 .left) in
+    let answering : refuses (s .answer) ≡ false = sym (c .before .before .before .before .before .before .before .before .before .before .before .before .before .before .is-refusal .ensures) ∙ c .before .before .before .before .before .before .before .before .before .before .before .before .before .if3 .left in
+    let code = c .code-of2 .ensures in
+    let shown : answers (c .code-of2 .result) ≡ true = ap (λ (m : ℕ). answers m) code ∙ answered (stateIn (a .state .now)) s w answering in (
+      submit-code n k long wide code e,
+      (by-answer code e (computed-submits s (a .state .now) (c .before .before .before .write-state .last .0) (a .snapshot .now) (c .before .before .before .before .before .before .before .before .before .before .write-snapshot .last .0) w (sym (c .before .before .before .before .before .before .before .is-computed .ensures) ∙ c .before .before .before .before .before .before .if4 .taken) (c .before .before .before .write-state .ensures .0) (c .before .before .before .write-state .ensures .1) (c .before .before .before .before .before .before .before .before .before .before .write-snapshot .ensures .0) (c .before .before .before .before .before .before .before .before .before .before .write-snapshot .ensures .1)), ((λ h. clash (sym shown ∙ h)), c .before .before .before .before .before .before .before .before .before .before .before .before .before .before .before .before .before .before .before .submit .ensures .1 .1)),
+    )
+
+code-of-requires-3 : tie.Need-code-of-requires-3
+code-of-requires-3 c κs = search needs
+
+same-length-8 : tie.Need-same-length-8
+same-length-8 c = search needs
+
+same-length-9 : tie.Need-same-length-9
+same-length-9 c = search needs
+
+same-length-10 : tie.Need-same-length-10
+same-length-10 c = search needs
+
+same-length-11 : tie.Need-same-length-11
+same-length-11 c = search needs
+
+returns-5 : tie.Need-returns-5
+returns-5 c =
+    let a = c .before .before .before .before .before .before .before .before .before .before .before .before .before .before .before .before .before .before .before .before .before .before .before .before .before .before .before .before .before .before .before .before .args in
+    let x = lent (a .fine .now) (a .coarse .now) (a .fine-squares .now) (a .coarse-squares .now) in
+    let i : Submission = handed x (window (a .bands) (a .times .now) (a .energies .now) (a .values .now)) (record { 0 = a .clock-ms }) (length (a .work32 .now)) (length (a .work64 .now)) in
+    let n = length (a .state .now) in
+    let k = length (a .snapshot .now) in
+    let s = c .before .before .before .before .before .before .before .before .before .before .before .before .before .before .submit .result in
+    let e = same i (c .before .before .before .before .before .before .before .before .before .before .before .before .before .before .before .before .before .read-state .ensures) (c .before .before .before .before .before .before .before .before .before .before .before .before .before .before .submit .ensures .0) in
+    let w = way-made i (c .before .before .before .before .before .before .before .before .before .before .before .before .before .before .before .before .before .read-state .ensures) (c .before .before .before .before .before .before .before .before .before .before .before .before .before .before .submit .ensures .0) in
+    let long = le-ltb n 106 (c .before .before .before .before .before .before .before .before .before .before .before .before .before .before .before .before .before .before .before .before .if1 .left) in
+    let wide = le-ltb k 77 (c .before .before .before .before .before .before .before .before .before .before .before .before .before .before .before .before .before .before .before .if2 .left) in
+    let answering : refuses (s .answer) ≡ false = sym (c .before .before .before .before .before .before .before .before .before .is-refusal .ensures) ∙ c .before .before .before .before .before .before .before .before .if3 .left in
+    let code = c .code-of3 .ensures in
+    let shown : answers (c .code-of3 .result) ≡ true = ap (λ (m : ℕ). answers m) code ∙ answered (stateIn (a .state .now)) s w answering in (
+      submit-code n k long wide code e,
+      (by-answer code e (reread-submits s (a .state .now) (a .snapshot .now) (c .before .before .before .before .before .write-snapshot .last .0) w answering (sym (c .before .before .is-computed .ensures) ∙ c .before .if4 .left) (c .before .before .before .before .before .write-snapshot .ensures .0) (c .before .before .before .before .before .write-snapshot .ensures .1)), ((λ h. clash (sym shown ∙ h)), c .before .before .before .before .before .before .before .before .before .before .before .before .before .before .submit .ensures .1 .1)),
+    )
+
+pub kistovab-submit-spec : {M : Type 1} → statement M
+kistovab-submit-spec =
+    tie.close
+    (tie.spec
+    returns
+    returns-2
+    read-state-requires
+    submit-requires
+    is-refusal-requires
+    code-of-requires
+    same-length
+    same-length-2
+    same-length-3
+    returns-3
+    write-snapshot-requires
+    is-computed-requires
+    write-state-requires
+    code-of-requires-2
+    same-length-4
+    same-length-5
+    same-length-6
+    same-length-7
+    returns-4
+    code-of-requires-3
+    same-length-8
+    same-length-9
+    same-length-10
+    same-length-11
+    returns-5)
