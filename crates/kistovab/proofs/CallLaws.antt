@@ -8,7 +8,7 @@ use borrow.Author.Tests.{ne-eqb}
 use lib.Dec.{ltb, eqb}
 use lib.ListN.{length, drop}
 use lib.Ieee.{Float}
-use Rattle.engine.specs.Trust.{Guaranteed}
+use Rattle.engine_spec.specs.Reached.{Guaranteed}
 use Rattle.engine_spec.specs.Windows.{Soundtrack, Index, rereads}
 use Rattle.engine_spec.specs.Refusals.{Submission, numberOf, refuses, unless, every, nearOrNotFinite, validConfiguration, hopInRange, countsInRange, indexFits, openingRefusal, submissionRefusal}
 use Rattle.engine_spec.specs.Opening.{opening}

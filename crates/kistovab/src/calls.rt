@@ -3,7 +3,7 @@
 ghost use lib.ListN.{length};
 ghost use mathlib.Core.Bool.{false};
 ghost use mathlib.Core.Path.{_≡_};
-ghost use Rattle.engine.specs.Trust.{Guaranteed};
+ghost use Rattle.engine_spec.specs.Reached.{Guaranteed};
 ghost use Rattle.engine_layout.specs.Layout.{stateIn};
 ghost use Rattle.engine_spec.specs.Lent.{film, handed, lent, window};
 ghost use Rattle.engine_spec.specs.Opening.{openedIndex, opening};

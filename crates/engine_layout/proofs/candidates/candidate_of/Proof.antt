@@ -1,5 +1,6 @@
-use Rattle.engine_layout.specs.Layout.{candidateOf}
+-- `engine_layout::candidates::candidate_of` meets its contract. Assumes nothing.
 use borrow.Author.Needs.{needs}
+use Rattle.engine_layout.specs.Layout.{candidateOf}
 use Rattle.engine_layout.proofs.candidates.candidate_of.Statement.{statement}
 use Rattle.engine_layout.proofs.candidates.candidate_of.Tie as tie
 

@@ -1,6 +1,7 @@
+-- `engine_layout::candidates::candidate_words` meets its contract. Assumes nothing.
+use borrow.Author.Needs.{needs}
 use Rattle.engine_layout.specs.Layout.{candidateOf}
 use Rattle.engine_layout.specs.Written.{candidateWords}
-use borrow.Author.Needs.{needs}
 use Rattle.engine_layout.proofs.candidates.candidate_words.Statement.{statement}
 use Rattle.engine_layout.proofs.candidates.candidate_words.Tie as tie
 

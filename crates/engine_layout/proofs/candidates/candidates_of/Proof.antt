@@ -1,8 +1,9 @@
+-- `engine_layout::candidates::candidates_of` meets its contract. Assumes nothing.
 use mathlib.Core.Path.{_≡_}
 use native.Mathlib.Omega.{arith}
 use lib.ListN.{length}
-use Rattle.engine_layout.specs.Layout.{candidatesOf}
 use borrow.Author.Needs.{needs}
+use Rattle.engine_layout.specs.Layout.{candidatesOf}
 use Rattle.engine_layout.proofs.candidates.candidates_of.Statement.{statement}
 use Rattle.engine_layout.proofs.candidates.candidates_of.Tie as tie
 

@@ -1,6 +1,7 @@
-use Rattle.engine_layout.specs.Layout.{endpointOf}
+-- `engine_layout::options::endpoint_of` meets its contract. Assumes nothing.
 use borrow.Author.Tests.{eq-eqb, ne-eqb}
 use borrow.Author.Needs.{needs}
+use Rattle.engine_layout.specs.Layout.{endpointOf}
 use Rattle.engine_layout.proofs.options.endpoint_of.Statement.{statement}
 use Rattle.engine_layout.proofs.options.endpoint_of.Tie as tie
 

@@ -1,5 +1,6 @@
-use Rattle.engine_layout.specs.Written.{endpointTag}
+-- `engine_layout::options::endpoint_tag` meets its contract. Assumes nothing.
 use borrow.Author.Needs.{needs}
+use Rattle.engine_layout.specs.Written.{endpointTag}
 use Rattle.engine_layout.proofs.options.endpoint_tag.Statement.{statement}
 use Rattle.engine_layout.proofs.options.endpoint_tag.Tie as tie
 

@@ -1,6 +1,7 @@
+-- `engine_layout::options::endpoint_word` meets its contract. Assumes nothing.
+use borrow.Author.Needs.{needs}
 use Rattle.engine_layout.specs.Layout.{endpointOf}
 use Rattle.engine_layout.specs.Written.{endpointTag, endpointWord}
-use borrow.Author.Needs.{needs}
 use Rattle.engine_layout.proofs.options.endpoint_word.Statement.{statement}
 use Rattle.engine_layout.proofs.options.endpoint_word.Tie as tie
 

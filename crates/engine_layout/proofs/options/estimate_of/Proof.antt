@@ -1,6 +1,7 @@
-use Rattle.engine_layout.specs.Layout.{estimateOf}
+-- `engine_layout::options::estimate_of` meets its contract. Assumes nothing.
 use borrow.Author.Tests.{eq-eqb, ne-eqb}
 use borrow.Author.Needs.{needs}
+use Rattle.engine_layout.specs.Layout.{estimateOf}
 use Rattle.engine_layout.proofs.options.estimate_of.Statement.{statement}
 use Rattle.engine_layout.proofs.options.estimate_of.Tie as tie
 

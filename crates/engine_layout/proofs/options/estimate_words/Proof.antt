@@ -1,6 +1,7 @@
+-- `engine_layout::options::estimate_words` meets its contract. Assumes nothing.
+use borrow.Author.Needs.{needs}
 use Rattle.engine_layout.specs.Layout.{estimateOf}
 use Rattle.engine_layout.specs.Written.{estimateWords}
-use borrow.Author.Needs.{needs}
 use Rattle.engine_layout.proofs.options.estimate_words.Statement.{statement}
 use Rattle.engine_layout.proofs.options.estimate_words.Tie as tie
 

@@ -1,6 +1,7 @@
-use Rattle.engine_layout.specs.Layout.{hypothesisOf}
+-- `engine_layout::options::hypothesis_of` meets its contract. Assumes nothing.
 use borrow.Author.Tests.{eq-eqb, ne-eqb}
 use borrow.Author.Needs.{needs}
+use Rattle.engine_layout.specs.Layout.{hypothesisOf}
 use Rattle.engine_layout.proofs.options.hypothesis_of.Statement.{statement}
 use Rattle.engine_layout.proofs.options.hypothesis_of.Tie as tie
 

@@ -1,6 +1,7 @@
+-- `engine_layout::options::hypothesis_words` meets its contract. Assumes nothing.
+use borrow.Author.Needs.{needs}
 use Rattle.engine_layout.specs.Layout.{hypothesisOf}
 use Rattle.engine_layout.specs.Written.{hypothesisWords}
-use borrow.Author.Needs.{needs}
 use Rattle.engine_layout.proofs.options.hypothesis_words.Statement.{statement}
 use Rattle.engine_layout.proofs.options.hypothesis_words.Tie as tie
 

@@ -1,6 +1,7 @@
-use Rattle.engine_layout.specs.Layout.{maybeOf}
+-- `engine_layout::options::maybe_of` meets its contract. Assumes nothing.
 use borrow.Author.Tests.{eq-eqb, ne-eqb}
 use borrow.Author.Needs.{needs}
+use Rattle.engine_layout.specs.Layout.{maybeOf}
 use Rattle.engine_layout.proofs.options.maybe_of.Statement.{statement}
 use Rattle.engine_layout.proofs.options.maybe_of.Tie as tie
 

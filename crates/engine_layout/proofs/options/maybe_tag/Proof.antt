@@ -1,5 +1,6 @@
-use Rattle.engine_layout.specs.Written.{maybeTag}
+-- `engine_layout::options::maybe_tag` meets its contract. Assumes nothing.
 use borrow.Author.Needs.{needs}
+use Rattle.engine_layout.specs.Written.{maybeTag}
 use Rattle.engine_layout.proofs.options.maybe_tag.Statement.{statement}
 use Rattle.engine_layout.proofs.options.maybe_tag.Tie as tie
 

@@ -1,6 +1,7 @@
+-- `engine_layout::options::maybe_word` meets its contract. Assumes nothing.
+use borrow.Author.Needs.{needs}
 use Rattle.engine_layout.specs.Layout.{maybeOf}
 use Rattle.engine_layout.specs.Written.{maybeTag, maybeWord}
-use borrow.Author.Needs.{needs}
 use Rattle.engine_layout.proofs.options.maybe_word.Statement.{statement}
 use Rattle.engine_layout.proofs.options.maybe_word.Tie as tie
 

@@ -1,6 +1,7 @@
-use Rattle.engine_layout.specs.Layout.{milestoneOf}
+-- `engine_layout::options::milestone_of` meets its contract. Assumes nothing.
 use borrow.Author.Tests.{eq-eqb, ne-eqb}
 use borrow.Author.Needs.{needs}
+use Rattle.engine_layout.specs.Layout.{milestoneOf}
 use Rattle.engine_layout.proofs.options.milestone_of.Statement.{statement}
 use Rattle.engine_layout.proofs.options.milestone_of.Tie as tie
 

@@ -1,5 +1,6 @@
-use Rattle.engine_layout.specs.Written.{milestoneTag}
+-- `engine_layout::options::milestone_tag` meets its contract. Assumes nothing.
 use borrow.Author.Needs.{needs}
+use Rattle.engine_layout.specs.Written.{milestoneTag}
 use Rattle.engine_layout.proofs.options.milestone_tag.Statement.{statement}
 use Rattle.engine_layout.proofs.options.milestone_tag.Tie as tie
 

@@ -1,6 +1,7 @@
+-- `engine_layout::options::milestone_word` meets its contract. Assumes nothing.
+use borrow.Author.Needs.{needs}
 use Rattle.engine_layout.specs.Layout.{milestoneOf}
 use Rattle.engine_layout.specs.Written.{milestoneTag, milestoneWord}
-use borrow.Author.Needs.{needs}
 use Rattle.engine_layout.proofs.options.milestone_word.Statement.{statement}
 use Rattle.engine_layout.proofs.options.milestone_word.Tie as tie
 

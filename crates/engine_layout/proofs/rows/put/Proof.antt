@@ -1,3 +1,4 @@
+-- `engine_layout::rows::put` meets its contract. Assumes nothing.
 use Prim.Native.Nat.{ℕ, _+_, _-_}
 use mathlib.Core.Path.{_≡_, ap, _∙_}
 use mathlib.Core.List.{List}

@@ -1,3 +1,4 @@
+-- `engine_layout::values::bool_of` meets its contract. Assumes nothing.
 use mathlib.Core.Path.{refl}
 use Rattle.engine_layout.proofs.values.bool_of.Statement.{statement}
 use Rattle.engine_layout.proofs.values.bool_of.Tie as tie

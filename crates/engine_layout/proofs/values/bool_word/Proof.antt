@@ -1,3 +1,4 @@
+-- `engine_layout::values::bool_word` meets its contract. Assumes nothing.
 use Rattle.engine_layout.proofs.values.bool_word.Statement.{statement}
 use Rattle.engine_layout.proofs.values.bool_word.Tie as tie
 

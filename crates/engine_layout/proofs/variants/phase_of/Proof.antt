@@ -1,5 +1,6 @@
-use Rattle.engine_layout.specs.Layout.{phaseOf}
+-- `engine_layout::variants::phase_of` meets its contract. Assumes nothing.
 use borrow.Author.Tests.{eq-eqb, ne-eqb}
+use Rattle.engine_layout.specs.Layout.{phaseOf}
 use Rattle.engine_layout.proofs.variants.phase_of.Statement.{statement}
 use Rattle.engine_layout.proofs.variants.phase_of.Tie as tie
 

@@ -1,5 +1,6 @@
-use Rattle.engine_layout.specs.Written.{phaseWord}
+-- `engine_layout::variants::phase_word` meets its contract. Assumes nothing.
 use borrow.Author.Needs.{needs}
+use Rattle.engine_layout.specs.Written.{phaseWord}
 use Rattle.engine_layout.proofs.variants.phase_word.Statement.{statement}
 use Rattle.engine_layout.proofs.variants.phase_word.Tie as tie
 

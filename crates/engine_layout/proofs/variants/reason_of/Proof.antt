@@ -1,5 +1,6 @@
-use Rattle.engine_layout.specs.Layout.{reasonOf}
+-- `engine_layout::variants::reason_of` meets its contract. Assumes nothing.
 use borrow.Author.Tests.{eq-eqb, ne-eqb}
+use Rattle.engine_layout.specs.Layout.{reasonOf}
 use Rattle.engine_layout.proofs.variants.reason_of.Statement.{statement}
 use Rattle.engine_layout.proofs.variants.reason_of.Tie as tie
 

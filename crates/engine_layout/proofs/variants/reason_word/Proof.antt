@@ -1,5 +1,6 @@
-use Rattle.engine_layout.specs.Written.{reasonWord}
+-- `engine_layout::variants::reason_word` meets its contract. Assumes nothing.
 use borrow.Author.Needs.{needs}
+use Rattle.engine_layout.specs.Written.{reasonWord}
 use Rattle.engine_layout.proofs.variants.reason_word.Statement.{statement}
 use Rattle.engine_layout.proofs.variants.reason_word.Tie as tie
 

@@ -1,5 +1,6 @@
-use Rattle.engine_layout.specs.Layout.{stageOf}
+-- `engine_layout::variants::stage_of` meets its contract. Assumes nothing.
 use borrow.Author.Tests.{eq-eqb, ne-eqb}
+use Rattle.engine_layout.specs.Layout.{stageOf}
 use Rattle.engine_layout.proofs.variants.stage_of.Statement.{statement}
 use Rattle.engine_layout.proofs.variants.stage_of.Tie as tie
 

@@ -1,5 +1,6 @@
-use Rattle.engine_layout.specs.Written.{stageWord}
+-- `engine_layout::variants::stage_word` meets its contract. Assumes nothing.
 use borrow.Author.Needs.{needs}
+use Rattle.engine_layout.specs.Written.{stageWord}
 use Rattle.engine_layout.proofs.variants.stage_word.Statement.{statement}
 use Rattle.engine_layout.proofs.variants.stage_word.Tie as tie
 

@@ -1,5 +1,6 @@
-use Rattle.engine_layout.specs.Layout.{stateOf}
+-- `engine_layout::variants::state_of` meets its contract. Assumes nothing.
 use borrow.Author.Tests.{eq-eqb, ne-eqb}
+use Rattle.engine_layout.specs.Layout.{stateOf}
 use Rattle.engine_layout.proofs.variants.state_of.Statement.{statement}
 use Rattle.engine_layout.proofs.variants.state_of.Tie as tie
 

@@ -1,5 +1,6 @@
-use Rattle.engine_layout.specs.Written.{stateWord}
+-- `engine_layout::variants::state_word` meets its contract. Assumes nothing.
 use borrow.Author.Needs.{needs}
+use Rattle.engine_layout.specs.Written.{stateWord}
 use Rattle.engine_layout.proofs.variants.state_word.Statement.{statement}
 use Rattle.engine_layout.proofs.variants.state_word.Tie as tie
 

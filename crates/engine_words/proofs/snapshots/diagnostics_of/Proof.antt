@@ -1,5 +1,6 @@
-use Rattle.engine_layout.specs.Layout.{diagnosticsOf}
+-- `engine_words::snapshots::diagnostics_of` meets its contract. Assumes nothing.
 use borrow.Author.Needs.{needs}
+use Rattle.engine_layout.specs.Layout.{diagnosticsOf}
 use Rattle.engine_words.proofs.snapshots.diagnostics_of.Statement.{statement}
 use Rattle.engine_words.proofs.snapshots.diagnostics_of.Tie as tie
 

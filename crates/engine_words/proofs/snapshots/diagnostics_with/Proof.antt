@@ -1,5 +1,6 @@
-use Rattle.engine_layout.specs.Layout.{diagnosticsWith}
+-- `engine_words::snapshots::diagnostics_with` meets its contract. Assumes nothing.
 use borrow.Author.Needs.{needs}
+use Rattle.engine_layout.specs.Layout.{diagnosticsWith}
 use Rattle.engine_words.proofs.snapshots.diagnostics_with.Statement.{statement}
 use Rattle.engine_words.proofs.snapshots.diagnostics_with.Tie as tie
 

@@ -1,7 +1,8 @@
-use Rattle.engine_words.proofs.ReadBack.{bool-back}
+-- `engine_words::snapshots::diagnostics_words` meets its contract. Assumes nothing.
+use borrow.Author.Needs.{needs}
 use Rattle.engine_layout.specs.Written.{diagnosticsNumbers}
 use Rattle.engine_layout.specs.Layout.{diagnosticsWith}
-use borrow.Author.Needs.{needs}
+use Rattle.engine_words.proofs.ReadBack.{bool-back}
 use Rattle.engine_words.proofs.snapshots.diagnostics_words.Statement.{statement}
 use Rattle.engine_words.proofs.snapshots.diagnostics_words.Tie as tie
 

@@ -1,10 +1,8 @@
-use Rattle.engine_layout.specs.Layout.{milestonesOf}
+-- `engine_words::snapshots::milestones_of` meets its contract. Assumes nothing.
 use borrow.Author.Needs.{needs}
+use Rattle.engine_layout.specs.Layout.{milestonesOf}
 use Rattle.engine_words.proofs.snapshots.milestones_of.Statement.{statement}
 use Rattle.engine_words.proofs.snapshots.milestones_of.Tie as tie
-use Rattle.engine_words.proofs.snapshots.milestones_of.Reads as reads
-use Rattle.engine_words.proofs.snapshots.milestones_of.Lts as lts
-use Rattle.engine_layout.proofs.options.milestone_of.Reads as milestone-of-reads
 
 shared-slice-read-milestone-of : tie.Need-shared-slice-read-milestone-of
 shared-slice-read-milestone-of c = search needs

@@ -1,5 +1,6 @@
-use Rattle.engine_layout.specs.Layout.{spectralOf}
+-- `engine_words::snapshots::spectral_of` meets its contract. Assumes nothing.
 use borrow.Author.Needs.{needs}
+use Rattle.engine_layout.specs.Layout.{spectralOf}
 use Rattle.engine_words.proofs.snapshots.spectral_of.Statement.{statement}
 use Rattle.engine_words.proofs.snapshots.spectral_of.Tie as tie
 

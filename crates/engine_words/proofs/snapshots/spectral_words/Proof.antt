@@ -1,7 +1,8 @@
-use Rattle.engine_words.proofs.ReadBack.{bool-back}
+-- `engine_words::snapshots::spectral_words` meets its contract. Assumes nothing.
+use borrow.Author.Needs.{needs}
 use Rattle.engine_layout.specs.Written.{spectralWords}
 use Rattle.engine_layout.specs.Layout.{spectralOf}
-use borrow.Author.Needs.{needs}
+use Rattle.engine_words.proofs.ReadBack.{bool-back}
 use Rattle.engine_words.proofs.snapshots.spectral_words.Statement.{statement}
 use Rattle.engine_words.proofs.snapshots.spectral_words.Tie as tie
 

@@ -1,5 +1,6 @@
-use Rattle.engine_layout.specs.Layout.{configurationOf}
+-- `engine_words::states::configuration_of` meets its contract. Assumes nothing.
 use borrow.Author.Needs.{needs}
+use Rattle.engine_layout.specs.Layout.{configurationOf}
 use Rattle.engine_words.proofs.states.configuration_of.Statement.{statement}
 use Rattle.engine_words.proofs.states.configuration_of.Tie as tie
 

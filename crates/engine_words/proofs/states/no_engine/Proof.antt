@@ -1,12 +1,10 @@
+-- `engine_words::states::no_engine` meets its contract. Assumes nothing.
 use lib.Ieee.{ofBits, ofFields, odd}
+use borrow.Author.Needs.{needs}
 use Rattle.engine_spec.specs.Opening.{noEngine, freshEngine, blankSnapshot}
 use Rattle.engine_layout.specs.Layout.{engineOf, settingsOf, configurationOf, lockOf, hypothesisOf, milestonesOf, milestoneOf, lastOf, endpointOf, snapshotOf, stateOf, phaseOf, stageOf, reasonOf, estimateOf, diagnosticsOf, diagnosticsWith, maybeOf, candidatesOf, candidateOf, spectralOf}
-use borrow.Author.Needs.{needs}
 use Rattle.engine_words.proofs.states.no_engine.Statement.{statement}
 use Rattle.engine_words.proofs.states.no_engine.Tie as tie
-use Rattle.engine_words.proofs.states.no_engine.Reads as reads
-use Rattle.engine_words.proofs.states.no_engine.Lts as lts
-use Rattle.engine_words.proofs.states.engine_of.Reads as engine-of-reads
 
 array-write-words : tie.Need-array-write-words
 array-write-words c = search needs

@@ -1,14 +1,12 @@
+-- `engine_words::states::settings_words` meets its contract. Assumes nothing.
 use Prim.Native.Nat.{_%_}
 use mathlib.Core.Path.{_≡_}
 use native.Mathlib.Nat.{mod-eq-of-lt}
+use borrow.Author.Needs.{needs}
 use Rattle.engine_layout.specs.Written.{settingsWords}
 use Rattle.engine_layout.specs.Layout.{settingsOf, configurationOf}
-use borrow.Author.Needs.{needs}
 use Rattle.engine_words.proofs.states.settings_words.Statement.{statement}
 use Rattle.engine_words.proofs.states.settings_words.Tie as tie
-use Rattle.engine_words.proofs.states.settings_words.Reads as reads
-use Rattle.engine_words.proofs.states.settings_words.Lts as lts
-use Rattle.engine_layout.proofs.values.float_word.Reads as float-word-reads
 
 float-word-requires : tie.Need-float-word-requires
 float-word-requires c κs = search needs

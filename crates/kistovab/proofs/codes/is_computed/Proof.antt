@@ -1,9 +1,8 @@
-use Rattle.engine_spec.specs.Guarantee.{isComputed}
+-- `kistovab::codes::is_computed` meets its contract. Assumes nothing.
 use borrow.Author.Needs.{needs}
+use Rattle.engine_spec.specs.Guarantee.{isComputed}
 use Rattle.kistovab.proofs.codes.is_computed.Statement.{statement}
 use Rattle.kistovab.proofs.codes.is_computed.Tie as tie
-use Rattle.kistovab.proofs.codes.is_computed.Reads as reads
-use Rattle.kistovab.proofs.codes.is_computed.Lts as lts
 
 enum-told : tie.Need-enum-told
 enum-told c = search needs

@@ -1,9 +1,10 @@
+-- `kistovab::sizes::kistovab_fine_squares_length` meets its contract. Assumes nothing.
 use borrow.Author.Tests.{le-leb, lt-leb}
-use Rattle.kistovab.specs.Sizes.{fineSquaresLength}
-use Prim.Native.Nat.{_+_, _*_, _/_, _≤_}
-use Rattle.kistovab.proofs.SizeLaws.{few}
+use Prim.Native.Nat.{_+_}
 use native.Mathlib.Omega.{arith}
 use borrow.Author.Needs.{needs}
+use Rattle.kistovab.specs.Sizes.{fineSquaresLength}
+use Rattle.kistovab.proofs.SizeLaws.{few}
 use Rattle.kistovab.proofs.sizes.kistovab_fine_squares_length.Statement.{statement}
 use Rattle.kistovab.proofs.sizes.kistovab_fine_squares_length.Tie as tie
 
