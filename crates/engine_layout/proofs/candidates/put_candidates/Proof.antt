@@ -1,11 +1,10 @@
-use Prim.Native.Nat.{ℕ, suc, _+_, _*_, _≤_, _-_}
-use mathlib.Core.Path.{_≡_, refl, sym, ap, _∙_}
-use mathlib.Core.List.{List}
+use Prim.Native.Nat.{_*_, _≤_, _-_}
+use mathlib.Core.Path.{_≡_, sym, ap, _∙_}
 use native.Mathlib.Numerals.{add-one}
 use lib.ListN.{length, getD}
 use Rattle.engine_spec.specs.declared.types.CandidateDiagnostics.{CandidateDiagnostics}
 use Rattle.engine_layout.specs.Layout.{candidateOf}
-use Rattle.engine_layout.specs.Written.{noCandidate, candidatesTo, candidateWords, placed}
+use Rattle.engine_layout.specs.Written.{noCandidate, candidatesTo, candidateWords}
 use Rattle.engine_layout.proofs.Laws.{Laid, none-laid}
 use Rattle.engine_layout.proofs.EightRows.{row-more, BackTo, all-back}
 use native.Mathlib.Omega.{arith}

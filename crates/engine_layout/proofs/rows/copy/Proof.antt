@@ -1,9 +1,9 @@
 use Prim.Native.Nat.{_≤_, _-_}
-use mathlib.Core.Path.{_≡_, refl, sym, ap, _∙_}
+use mathlib.Core.Path.{_≡_, refl, sym, _∙_}
 use native.Mathlib.Numerals.{add-one}
 use native.Mathlib.Omega.{arith}
 use borrow.Author.Needs.{needs}
-use lib.ListN.{length, take, getD, set, length-set}
+use lib.ListN.{length, take, getD, length-set}
 use lib.Seq.{take-all}
 use Rattle.engine_layout.proofs.Laws.{copied}
 use Rattle.engine_layout.proofs.rows.copy.Statement.{statement}

@@ -1,7 +1,7 @@
 use Prim.Native.Nat.{ℕ}
 use mathlib.Core.Path.{_≡_, refl, sym, ap, _∙_, subst}
 use lib.Dec.{T}
-use lib.Ieee.{Float, nan, binary64, fits, toBits, ofBits}
+use lib.Ieee.{nan, binary64, fits, toBits, ofBits}
 use lib.Ieee.Bits.{ofBits-toBits}
 use lib.Ieee.Compare.{differs-from-itself}
 use Rattle.engine_layout.proofs.Floats.{same-no-nan}

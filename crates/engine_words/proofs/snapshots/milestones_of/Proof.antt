@@ -2,9 +2,6 @@ use Rattle.engine_layout.specs.Layout.{milestonesOf}
 use borrow.Author.Needs.{needs}
 use Rattle.engine_words.proofs.snapshots.milestones_of.Statement.{statement}
 use Rattle.engine_words.proofs.snapshots.milestones_of.Tie as tie
-use Rattle.engine_words.proofs.snapshots.milestones_of.Reads as reads
-use Rattle.engine_words.proofs.snapshots.milestones_of.Lts as lts
-use Rattle.engine_layout.proofs.options.milestone_of.Reads as milestone-of-reads
 
 shared-slice-read-milestone-of : tie.Need-shared-slice-read-milestone-of
 shared-slice-read-milestone-of c = search needs

@@ -3,10 +3,6 @@ use Rattle.engine_layout.specs.Layout.{milestonesOf}
 use borrow.Author.Needs.{needs}
 use Rattle.engine_words.proofs.snapshots.milestones_words.Statement.{statement}
 use Rattle.engine_words.proofs.snapshots.milestones_words.Tie as tie
-use Rattle.engine_words.proofs.snapshots.milestones_words.Reads as reads
-use Rattle.engine_words.proofs.snapshots.milestones_words.Lts as lts
-use Rattle.engine_layout.proofs.options.milestone_tag.Reads as milestone-tag-reads
-use Rattle.engine_layout.proofs.options.milestone_word.Reads as milestone-word-reads
 
 milestone-tag-requires : tie.Need-milestone-tag-requires
 milestone-tag-requires c κs = search needs

@@ -5,18 +5,12 @@ use Rattle.engine_layout.specs.Layout.{diagnosticsWith, spectralOf}
 use lib.ListN.{length}
 use native.Mathlib.Omega.{arith}
 use Prim.Native.Nat.{ℕ, _+_, _≤_}
-use mathlib.Core.List.{List, [], _∷_, _++_}
+use mathlib.Core.List.{List, _++_}
 use mathlib.Core.Path.{_≡_, refl, sym, ap, _∙_}
-use Rattle.engine_layout.proofs.Laws.{Laid, first-laid, next-laid, cons-same}
+use Rattle.engine_layout.proofs.Laws.{Laid, first-laid, next-laid}
 use borrow.Author.Needs.{needs}
 use Rattle.engine_words.proofs.snapshots.put_diagnostics.Statement.{statement}
 use Rattle.engine_words.proofs.snapshots.put_diagnostics.Tie as tie
-use Rattle.engine_words.proofs.snapshots.put_diagnostics.Reads as reads
-use Rattle.engine_words.proofs.snapshots.put_diagnostics.Lts as lts
-use Rattle.engine_layout.proofs.candidates.put_candidates.Reads as put-candidates-reads
-use Rattle.engine_layout.proofs.rows.put.Reads as put-reads
-use Rattle.engine_words.proofs.snapshots.diagnostics_words.Reads as diagnostics-words-reads
-use Rattle.engine_words.proofs.snapshots.spectral_words.Reads as spectral-words-reads
 
 diagnostics-words-requires : tie.Need-diagnostics-words-requires
 diagnostics-words-requires c κs = search needs

@@ -11,17 +11,6 @@ use Rattle.engine_layout.proofs.Laws.{Laid, first-laid, next-laid, cons-same}
 use borrow.Author.Needs.{needs}
 use Rattle.engine_words.proofs.snapshots.put_snapshot.Statement.{statement}
 use Rattle.engine_words.proofs.snapshots.put_snapshot.Tie as tie
-use Rattle.engine_words.proofs.snapshots.put_snapshot.Reads as reads
-use Rattle.engine_words.proofs.snapshots.put_snapshot.Lts as lts
-use Rattle.engine_layout.proofs.options.estimate_words.Reads as estimate-words-reads
-use Rattle.engine_layout.proofs.rows.put.Reads as put-reads
-use Rattle.engine_layout.proofs.values.float_word.Reads as float-word-reads
-use Rattle.engine_layout.proofs.variants.phase_word.Reads as phase-word-reads
-use Rattle.engine_layout.proofs.variants.reason_word.Reads as reason-word-reads
-use Rattle.engine_layout.proofs.variants.stage_word.Reads as stage-word-reads
-use Rattle.engine_layout.proofs.variants.state_word.Reads as state-word-reads
-use Rattle.engine_words.proofs.snapshots.milestones_words.Reads as milestones-words-reads
-use Rattle.engine_words.proofs.snapshots.put_diagnostics.Reads as put-diagnostics-reads
 
 state-word-requires : tie.Need-state-word-requires
 state-word-requires c κs = search needs

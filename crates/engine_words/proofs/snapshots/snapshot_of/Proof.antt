@@ -2,16 +2,6 @@ use Rattle.engine_layout.specs.Layout.{snapshotOf}
 use borrow.Author.Needs.{needs}
 use Rattle.engine_words.proofs.snapshots.snapshot_of.Statement.{statement}
 use Rattle.engine_words.proofs.snapshots.snapshot_of.Tie as tie
-use Rattle.engine_words.proofs.snapshots.snapshot_of.Reads as reads
-use Rattle.engine_words.proofs.snapshots.snapshot_of.Lts as lts
-use Rattle.engine_layout.proofs.options.estimate_of.Reads as estimate-of-reads
-use Rattle.engine_layout.proofs.values.word_float.Reads as word-float-reads
-use Rattle.engine_layout.proofs.variants.phase_of.Reads as phase-of-reads
-use Rattle.engine_layout.proofs.variants.reason_of.Reads as reason-of-reads
-use Rattle.engine_layout.proofs.variants.stage_of.Reads as stage-of-reads
-use Rattle.engine_layout.proofs.variants.state_of.Reads as state-of-reads
-use Rattle.engine_words.proofs.snapshots.diagnostics_of.Reads as diagnostics-of-reads
-use Rattle.engine_words.proofs.snapshots.milestones_of.Reads as milestones-of-reads
 
 shared-slice-read-state-of : tie.Need-shared-slice-read-state-of
 shared-slice-read-state-of c = search needs

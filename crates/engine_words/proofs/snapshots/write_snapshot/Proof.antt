@@ -6,15 +6,11 @@ use lib.ListN.{length}
 use native.Mathlib.Omega.{arith}
 use Prim.Native.Nat.{ℕ, _+_, _≤_}
 use mathlib.Core.List.{List, [], _∷_, _++_}
-use mathlib.Core.Path.{_≡_, refl, sym, ap, _∙_}
-use Rattle.engine_layout.proofs.Laws.{Laid, first-laid, next-laid, cons-same}
+use mathlib.Core.Path.{refl}
+use Rattle.engine_layout.proofs.Laws.{Laid, first-laid, next-laid}
 use borrow.Author.Needs.{needs}
 use Rattle.engine_words.proofs.snapshots.write_snapshot.Statement.{statement}
 use Rattle.engine_words.proofs.snapshots.write_snapshot.Tie as tie
-use Rattle.engine_words.proofs.snapshots.write_snapshot.Reads as reads
-use Rattle.engine_words.proofs.snapshots.write_snapshot.Lts as lts
-use Rattle.engine_layout.proofs.rows.put.Reads as put-reads
-use Rattle.engine_words.proofs.snapshots.put_snapshot.Reads as put-snapshot-reads
 
 slice-aggregate-put : tie.Need-slice-aggregate-put
 slice-aggregate-put c = search needs

@@ -2,12 +2,6 @@ use Rattle.engine_layout.specs.Layout.{engineOf}
 use borrow.Author.Needs.{needs}
 use Rattle.engine_words.proofs.states.engine_of.Statement.{statement}
 use Rattle.engine_words.proofs.states.engine_of.Tie as tie
-use Rattle.engine_words.proofs.states.engine_of.Reads as reads
-use Rattle.engine_words.proofs.states.engine_of.Lts as lts
-use Rattle.engine_words.proofs.snapshots.milestones_of.Reads as milestones-of-reads
-use Rattle.engine_words.proofs.states.last_of.Reads as last-of-reads
-use Rattle.engine_words.proofs.states.lock_of.Reads as lock-of-reads
-use Rattle.engine_words.proofs.states.settings_of.Reads as settings-of-reads
 
 sub-settings-of : tie.Need-sub-settings-of
 sub-settings-of c = search needs

@@ -2,11 +2,6 @@ use Rattle.engine_layout.specs.Layout.{lastOf}
 use borrow.Author.Needs.{needs}
 use Rattle.engine_words.proofs.states.last_of.Statement.{statement}
 use Rattle.engine_words.proofs.states.last_of.Tie as tie
-use Rattle.engine_words.proofs.states.last_of.Reads as reads
-use Rattle.engine_words.proofs.states.last_of.Lts as lts
-use Rattle.engine_layout.proofs.options.endpoint_of.Reads as endpoint-of-reads
-use Rattle.engine_layout.proofs.values.bool_of.Reads as bool-of-reads
-use Rattle.engine_words.proofs.snapshots.snapshot_of.Reads as snapshot-of-reads
 
 shared-slice-read-endpoint-of : tie.Need-shared-slice-read-endpoint-of
 shared-slice-read-endpoint-of c = search needs

@@ -2,10 +2,6 @@ use Rattle.engine_layout.specs.Layout.{lockOf}
 use borrow.Author.Needs.{needs}
 use Rattle.engine_words.proofs.states.lock_of.Statement.{statement}
 use Rattle.engine_words.proofs.states.lock_of.Tie as tie
-use Rattle.engine_words.proofs.states.lock_of.Reads as reads
-use Rattle.engine_words.proofs.states.lock_of.Lts as lts
-use Rattle.engine_layout.proofs.options.hypothesis_of.Reads as hypothesis-of-reads
-use Rattle.engine_layout.proofs.values.word_float.Reads as word-float-reads
 
 sub-hypothesis-of : tie.Need-sub-hypothesis-of
 sub-hypothesis-of c = search needs

@@ -4,9 +4,6 @@ use Rattle.engine_layout.specs.Layout.{engineOf, settingsOf, configurationOf, l
 use borrow.Author.Needs.{needs}
 use Rattle.engine_words.proofs.states.no_engine.Statement.{statement}
 use Rattle.engine_words.proofs.states.no_engine.Tie as tie
-use Rattle.engine_words.proofs.states.no_engine.Reads as reads
-use Rattle.engine_words.proofs.states.no_engine.Lts as lts
-use Rattle.engine_words.proofs.states.engine_of.Reads as engine-of-reads
 
 array-write-words : tie.Need-array-write-words
 array-write-words c = search needs

@@ -5,19 +5,12 @@ use Rattle.engine_layout.specs.Layout.{settingsOf, milestonesOf}
 use lib.ListN.{length}
 use native.Mathlib.Omega.{arith}
 use Prim.Native.Nat.{ℕ, _+_, _≤_}
-use mathlib.Core.List.{List, [], _∷_, _++_}
+use mathlib.Core.List.{List, _++_}
 use mathlib.Core.Path.{_≡_, refl, sym, ap, _∙_}
-use Rattle.engine_layout.proofs.Laws.{Laid, first-laid, next-laid, cons-same}
+use Rattle.engine_layout.proofs.Laws.{Laid, first-laid, next-laid}
 use borrow.Author.Needs.{needs}
 use Rattle.engine_words.proofs.states.put_engine.Statement.{statement}
 use Rattle.engine_words.proofs.states.put_engine.Tie as tie
-use Rattle.engine_words.proofs.states.put_engine.Reads as reads
-use Rattle.engine_words.proofs.states.put_engine.Lts as lts
-use Rattle.engine_layout.proofs.rows.put.Reads as put-reads
-use Rattle.engine_words.proofs.snapshots.milestones_words.Reads as milestones-words-reads
-use Rattle.engine_words.proofs.states.put_last.Reads as put-last-reads
-use Rattle.engine_words.proofs.states.put_lock.Reads as put-lock-reads
-use Rattle.engine_words.proofs.states.settings_words.Reads as settings-words-reads
 
 settings-words-requires : tie.Need-settings-words-requires
 settings-words-requires c κs = search needs

@@ -11,13 +11,6 @@ use Rattle.engine_layout.proofs.Laws.{Laid, first-laid, next-laid, cons-same}
 use borrow.Author.Needs.{needs}
 use Rattle.engine_words.proofs.states.put_last.Statement.{statement}
 use Rattle.engine_words.proofs.states.put_last.Tie as tie
-use Rattle.engine_words.proofs.states.put_last.Reads as reads
-use Rattle.engine_words.proofs.states.put_last.Lts as lts
-use Rattle.engine_layout.proofs.options.endpoint_tag.Reads as endpoint-tag-reads
-use Rattle.engine_layout.proofs.options.endpoint_word.Reads as endpoint-word-reads
-use Rattle.engine_layout.proofs.rows.put.Reads as put-reads
-use Rattle.engine_layout.proofs.values.bool_word.Reads as bool-word-reads
-use Rattle.engine_words.proofs.snapshots.put_snapshot.Reads as put-snapshot-reads
 
 endpoint-tag-requires : tie.Need-endpoint-tag-requires
 endpoint-tag-requires c κs = search needs

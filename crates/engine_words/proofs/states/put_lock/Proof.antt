@@ -11,11 +11,6 @@ use Rattle.engine_layout.proofs.Laws.{Laid, first-laid, next-laid, cons-same}
 use borrow.Author.Needs.{needs}
 use Rattle.engine_words.proofs.states.put_lock.Statement.{statement}
 use Rattle.engine_words.proofs.states.put_lock.Tie as tie
-use Rattle.engine_words.proofs.states.put_lock.Reads as reads
-use Rattle.engine_words.proofs.states.put_lock.Lts as lts
-use Rattle.engine_layout.proofs.options.hypothesis_words.Reads as hypothesis-words-reads
-use Rattle.engine_layout.proofs.rows.put.Reads as put-reads
-use Rattle.engine_layout.proofs.values.float_word.Reads as float-word-reads
 
 hypothesis-words-requires : tie.Need-hypothesis-words-requires
 hypothesis-words-requires c κs = search needs

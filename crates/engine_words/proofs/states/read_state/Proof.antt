@@ -3,10 +3,6 @@ use Rattle.engine_layout.specs.Layout.{stateIn}
 use borrow.Author.Needs.{needs}
 use Rattle.engine_words.proofs.states.read_state.Statement.{statement}
 use Rattle.engine_words.proofs.states.read_state.Tie as tie
-use Rattle.engine_words.proofs.states.read_state.Reads as reads
-use Rattle.engine_words.proofs.states.read_state.Lts as lts
-use Rattle.engine_words.proofs.states.engine_of.Reads as engine-of-reads
-use Rattle.engine_words.proofs.states.no_engine.Reads as no-engine-reads
 
 shared-slice-read-if1 : tie.Need-shared-slice-read-if1
 shared-slice-read-if1 c = search needs

@@ -2,10 +2,6 @@ use Rattle.engine_layout.specs.Layout.{settingsOf}
 use borrow.Author.Needs.{needs}
 use Rattle.engine_words.proofs.states.settings_of.Statement.{statement}
 use Rattle.engine_words.proofs.states.settings_of.Tie as tie
-use Rattle.engine_words.proofs.states.settings_of.Reads as reads
-use Rattle.engine_words.proofs.states.settings_of.Lts as lts
-use Rattle.engine_layout.proofs.values.word_float.Reads as word-float-reads
-use Rattle.engine_words.proofs.states.configuration_of.Reads as configuration-of-reads
 
 sub-configuration-of : tie.Need-sub-configuration-of
 sub-configuration-of c = search needs

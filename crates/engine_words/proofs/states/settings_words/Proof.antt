@@ -6,9 +6,6 @@ use Rattle.engine_layout.specs.Layout.{settingsOf, configurationOf}
 use borrow.Author.Needs.{needs}
 use Rattle.engine_words.proofs.states.settings_words.Statement.{statement}
 use Rattle.engine_words.proofs.states.settings_words.Tie as tie
-use Rattle.engine_words.proofs.states.settings_words.Reads as reads
-use Rattle.engine_words.proofs.states.settings_words.Lts as lts
-use Rattle.engine_layout.proofs.values.float_word.Reads as float-word-reads
 
 float-word-requires : tie.Need-float-word-requires
 float-word-requires c κs = search needs

@@ -1,21 +1,15 @@
 use Rattle.kistovab.specs.Calls.{configured}
 use native.Mathlib.Omega.{arith}
 use Rattle.kistovab.proofs.CallLaws.{short-code, short-index, short-opens, open-code, index-after, refused-opens, opened-opens, opened-zero, guaranteed-of}
-use Rattle.engine_spec.specs.Refusals.{Submission, refuses}
-use Rattle.engine_spec.specs.Lent.{film, handed, lent, window}
-use mathlib.Core.Bool.{Bool, true, false}
+use Rattle.engine_spec.specs.Refusals.{refuses}
+use Rattle.engine_spec.specs.Lent.{film, lent}
+use mathlib.Core.Bool.{true, false}
 use lib.ListN.{length}
 use borrow.Author.Tests.{lt-ltb, le-ltb}
-use mathlib.Core.Path.{_≡_, refl, sym, ap, _∙_}
+use mathlib.Core.Path.{_≡_, sym, _∙_}
 use borrow.Author.Needs.{needs}
 use Rattle.kistovab.proofs.calls.kistovab_open.Statement.{statement}
 use Rattle.kistovab.proofs.calls.kistovab_open.Tie as tie
-use Rattle.kistovab.proofs.calls.kistovab_open.Reads as reads
-use Rattle.kistovab.proofs.calls.kistovab_open.Lts as lts
-use Rattle.engine.proofs.calls.open.Reads as open-reads
-use Rattle.engine_refusals.proofs.handed.is_refusal.Reads as is-refusal-reads
-use Rattle.engine_words.proofs.states.write_state.Reads as write-state-reads
-use Rattle.kistovab.proofs.codes.code_of.Reads as code-of-reads
 
 returns : tie.Need-returns
 returns c = (short-code _ _ (lt-ltb _ _ (c .if1 .taken)), (short-opens _ _, (short-index _ _ _ (lt-ltb _ _ (c .if1 .taken)), λ h. absurd (omega arith))))

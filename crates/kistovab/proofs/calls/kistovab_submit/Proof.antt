@@ -1,27 +1,17 @@
 use Prim.Native.Nat.{ℕ}
 use Rattle.engine_layout.specs.Layout.{stateIn}
 use Rattle.engine_spec.proofs.Submissions.{clash}
-use Rattle.engine_spec.specs.Guarantee.{isComputed}
-use Rattle.kistovab.specs.Codes.{answers, codeOf}
+use Rattle.kistovab.specs.Codes.{answers}
 use Rattle.kistovab.proofs.CallLaws.{few-words, few-shown, short-submits, submit-code, refused-submits, reread-submits, computed-submits, same, way-made, by-answer, answered}
 use Rattle.engine_spec.specs.Refusals.{Submission, refuses}
-use Rattle.engine_spec.specs.Lent.{film, handed, lent, window}
-use mathlib.Core.Bool.{Bool, true, false}
+use Rattle.engine_spec.specs.Lent.{handed, lent, window}
+use mathlib.Core.Bool.{true, false}
 use lib.ListN.{length}
 use borrow.Author.Tests.{lt-ltb, le-ltb}
 use mathlib.Core.Path.{_≡_, refl, sym, ap, _∙_}
 use borrow.Author.Needs.{needs}
 use Rattle.kistovab.proofs.calls.kistovab_submit.Statement.{statement}
 use Rattle.kistovab.proofs.calls.kistovab_submit.Tie as tie
-use Rattle.kistovab.proofs.calls.kistovab_submit.Reads as reads
-use Rattle.kistovab.proofs.calls.kistovab_submit.Lts as lts
-use Rattle.engine.proofs.calls.submit.Reads as submit-reads
-use Rattle.engine_refusals.proofs.handed.is_refusal.Reads as is-refusal-reads
-use Rattle.engine_words.proofs.snapshots.write_snapshot.Reads as write-snapshot-reads
-use Rattle.engine_words.proofs.states.read_state.Reads as read-state-reads
-use Rattle.engine_words.proofs.states.write_state.Reads as write-state-reads
-use Rattle.kistovab.proofs.codes.code_of.Reads as code-of-reads
-use Rattle.kistovab.proofs.codes.is_computed.Reads as is-computed-reads
 
 returns : tie.Need-returns
 returns c = (few-words _ _ _ (lt-ltb _ _ (c .if1 .taken)), (short-submits _ _ _, ((λ h. (refl, refl)), (refl, refl))))

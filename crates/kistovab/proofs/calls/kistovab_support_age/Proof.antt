@@ -4,16 +4,10 @@ use Rattle.engine_spec.specs.SupportAge.{supportAge}
 use lib.ListN.{length}
 use Rattle.kistovab.specs.Calls.{ageCode, ageAfter, foundCode, found}
 use borrow.Author.Tests.{lt-ltb, le-ltb}
-use mathlib.Core.Path.{_≡_, refl, sym, ap, _∙_}
+use mathlib.Core.Path.{sym, ap, _∙_}
 use borrow.Author.Needs.{needs}
 use Rattle.kistovab.proofs.calls.kistovab_support_age.Statement.{statement}
 use Rattle.kistovab.proofs.calls.kistovab_support_age.Tie as tie
-use Rattle.kistovab.proofs.calls.kistovab_support_age.Reads as reads
-use Rattle.kistovab.proofs.calls.kistovab_support_age.Lts as lts
-use Rattle.engine.proofs.calls.support_age.Reads as support-age-reads
-use Rattle.engine_refusals.proofs.handed.is_refusal.Reads as is-refusal-reads
-use Rattle.engine_words.proofs.states.read_state.Reads as read-state-reads
-use Rattle.kistovab.proofs.codes.code_of.Reads as code-of-reads
 
 returns : tie.Need-returns
 unfolding ageCode ageAfter

@@ -2,8 +2,6 @@ use Rattle.kistovab.specs.Codes.{codeOf}
 use borrow.Author.Needs.{needs}
 use Rattle.kistovab.proofs.codes.code_of.Statement.{statement}
 use Rattle.kistovab.proofs.codes.code_of.Tie as tie
-use Rattle.kistovab.proofs.codes.code_of.Reads as reads
-use Rattle.kistovab.proofs.codes.code_of.Lts as lts
 
 enum-told : tie.Need-enum-told
 enum-told c = search needs

@@ -2,8 +2,6 @@ use Rattle.engine_spec.specs.Guarantee.{isComputed}
 use borrow.Author.Needs.{needs}
 use Rattle.kistovab.proofs.codes.is_computed.Statement.{statement}
 use Rattle.kistovab.proofs.codes.is_computed.Tie as tie
-use Rattle.kistovab.proofs.codes.is_computed.Reads as reads
-use Rattle.kistovab.proofs.codes.is_computed.Lts as lts
 
 enum-told : tie.Need-enum-told
 enum-told c = search needs

@@ -1,9 +1,7 @@
 use borrow.Author.Tests.{le-leb, lt-leb}
 use Rattle.kistovab.specs.Sizes.{fineLength}
-use Prim.Native.Nat.{_+_, _*_, _/_, _≤_}
 use Rattle.kistovab.proofs.SizeLaws.{few}
 use native.Mathlib.Omega.{arith}
-use borrow.Author.Needs.{needs}
 use Rattle.kistovab.proofs.sizes.kistovab_fine_length.Statement.{statement}
 use Rattle.kistovab.proofs.sizes.kistovab_fine_length.Tie as tie
 

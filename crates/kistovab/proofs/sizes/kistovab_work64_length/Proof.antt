@@ -1,6 +1,6 @@
 use borrow.Author.Tests.{le-leb, lt-leb}
 use Rattle.kistovab.specs.Sizes.{work64Length}
-use Prim.Native.Nat.{_+_, _*_, _/_, _≤_}
+use Prim.Native.Nat.{_+_, _*_}
 use Rattle.kistovab.proofs.SizeLaws.{few}
 use native.Mathlib.Omega.{arith}
 use borrow.Author.Needs.{needs}
