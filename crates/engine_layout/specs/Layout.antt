@@ -19,15 +19,12 @@
 --
 -- As words of a slice of its own a snapshot is 77: the layout number first.
 use Prim.Native.Nat.{ℕ, _%_}
-use mathlib.Core.Bool.{Bool, true, false, cond}
+use mathlib.Core.Bool.{Bool, cond}
 use mathlib.Core.List.{List, [], _∷_}
 use lib.Dec.{eqb}
 use lib.ListN.{take, drop, getD}
 use lib.Ieee.{Float, binary64, toBits, ofBits}
 use Rattle.engine_spec.specs.Opening.{noEngine}
-use Rattle.engine_spec.specs.declared.types.RecordedMs.{RecordedMs}
-use Rattle.engine_spec.specs.declared.types.ReferenceMs.{ReferenceMs}
-use Rattle.engine_spec.specs.declared.types.ClockMs.{ClockMs}
 use Rattle.engine_spec.specs.declared.types.Configuration.{Configuration}
 use Rattle.engine_spec.specs.declared.types.Settings.{Settings}
 use Rattle.engine_spec.specs.declared.types.Lock.{Lock}

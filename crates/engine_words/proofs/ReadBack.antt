@@ -1,10 +1,10 @@
 -- What was written is read back, part by part. Assumes nothing.
-use Prim.Native.Nat.{ℕ, _+_, _≤_}
-use mathlib.Core.Path.{_≡_, refl, sym, ap, _∙_}
+use Prim.Native.Nat.{ℕ, _+_}
+use mathlib.Core.Path.{_≡_, refl, ap, _∙_}
 use mathlib.Core.Bool.{Bool, true, false}
 use mathlib.Core.List.{List, [], _∷_, _++_}
 use native.Mathlib.Omega.{arith}
-use lib.ListN.{length, take, drop, getD}
+use lib.ListN.{length, drop, getD}
 use lib.Seq.{take-all, take-at, getD-at}
 use Rattle.engine_spec.specs.declared.types.Diagnostics.{Diagnostics}
 use Rattle.engine_spec.specs.declared.types.Snapshot.{Snapshot}

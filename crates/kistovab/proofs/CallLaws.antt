@@ -12,7 +12,7 @@ use Rattle.engine_spec.specs.Reached.{Guaranteed}
 use Rattle.engine_spec.specs.Windows.{Soundtrack, Index, rereads}
 use Rattle.engine_spec.specs.Refusals.{Submission, numberOf, refuses, unless, every, nearOrNotFinite, validConfiguration, hopInRange, countsInRange, indexFits, openingRefusal, submissionRefusal}
 use Rattle.engine_spec.specs.Opening.{opening}
-use Rattle.engine_spec.specs.Submitting.{refused, reread, computedFrom, decisionOn, submit}
+use Rattle.engine_spec.specs.Submitting.{refused, reread, computedFrom, decisionOn, answeredFrom, submit}
 use Rattle.engine_spec.specs.Guarantee.{isComputed}
 use Rattle.engine_spec.proofs.Submissions.{clash, refusal-struck}
 use Rattle.engine_spec.specs.declared.types.Configuration.{Configuration}
@@ -122,7 +122,7 @@ way-of e i false true q = again refl refl
 way-of e i false false q = computed refl
 
 way : (e : Engine) (i : Submission) → Way e (submit e i)
-unfolding submit
+unfolding submit answeredFrom
 way e i = way-of e i (refuses (submissionRefusal e i)) (e .last .«has_snapshot» && rereads (e .settings) (e .last .«endpoint_ms») (i .window)) refl
 
 pub submit-code : (n k : ℕ) {code : ℕ} {s t : Submitted} → ltb n stateWords ≡ false → ltb k snapshotWords ≡ false → code ≡ codeOf (s .answer) → s ≡ t → code ≡ submitCode n k t

@@ -1,7 +1,7 @@
 -- What the calls answer and write: open, submit, support age over the engine that words hold (engine_layout, `stateIn`). Definitions only.
 use Prim.Native.Nat.{ℕ, _<_}
 use mathlib.Core.Path.{_≡_}
-use mathlib.Core.Bool.{Bool, true, false, cond}
+use mathlib.Core.Bool.{true, false, cond}
 use mathlib.Core.List.{List}
 use lib.Dec.{ltb}
 use lib.ListN.{drop}

@@ -124,18 +124,18 @@ pub extern "C" fn kistovab_submit(
         work32,
         work64,
     );
-    let answer = submitted.answer;
-    if is_refusal(answer) {
-        return code_of(answer);
+    let verdict = submitted.answer;
+    if is_refusal(verdict) {
+        return code_of(verdict);
     }
     let shown = submitted.snapshot;
     write_snapshot(snapshot, shown);
-    if is_computed(answer) {
+    if is_computed(verdict) {
         let next = submitted.engine;
         write_state(state, next);
-        return code_of(answer);
+        return code_of(verdict);
     }
-    code_of(answer)
+    code_of(verdict)
 }
 
 // Where there is no age, `age` is left as it is.

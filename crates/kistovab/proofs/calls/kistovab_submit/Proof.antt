@@ -56,7 +56,7 @@ returns-3 c =
     let refusing : refuses (s .answer) ≡ true = sym (c .before .before .is-refusal .ensures) ∙ c .before .if3 .taken in
     let code = c .code-of .ensures in (
       submit-code n k long wide code e,
-      (by-answer code e (refused-submits s (a .state .now) (a .snapshot .now) w refusing), ((λ h. c .before .before .before .before .before .before .before .submit .ensures .1 .0 refusing), c .before .before .before .before .before .before .before .submit .ensures .1 .1)),
+      (by-answer code e (refused-submits s (a .state .now) (a .snapshot .now) w refusing), ((λ h. c .before .before .before .before .before .before .before .submit .ensures .1 .0 refusing), c .before .before .before .before .before .before .before .submit .ensures .1 .1 .0)),
     )
 
 write-snapshot-requires : tie.Need-write-snapshot-requires
@@ -99,7 +99,7 @@ returns-4 c =
     let code = c .code-of2 .ensures in
     let shown : answers (c .code-of2 .result) ≡ true = ap (λ (m : ℕ). answers m) code ∙ answered (stateIn (a .state .now)) s w answering in (
       submit-code n k long wide code e,
-      (by-answer code e (computed-submits s (a .state .now) (c .before .before .before .write-state .last .0) (a .snapshot .now) (c .before .before .before .before .before .before .before .before .before .before .write-snapshot .last .0) w (sym (c .before .before .before .before .before .before .before .is-computed .ensures) ∙ c .before .before .before .before .before .before .if4 .taken) (c .before .before .before .write-state .ensures .0) (c .before .before .before .write-state .ensures .1) (c .before .before .before .before .before .before .before .before .before .before .write-snapshot .ensures .0) (c .before .before .before .before .before .before .before .before .before .before .write-snapshot .ensures .1)), ((λ h. clash (sym shown ∙ h)), c .before .before .before .before .before .before .before .before .before .before .before .before .before .before .before .before .before .before .before .submit .ensures .1 .1)),
+      (by-answer code e (computed-submits s (a .state .now) (c .before .before .before .write-state .last .0) (a .snapshot .now) (c .before .before .before .before .before .before .before .before .before .before .write-snapshot .last .0) w (sym (c .before .before .before .before .before .before .before .is-computed .ensures) ∙ c .before .before .before .before .before .before .if4 .taken) (c .before .before .before .write-state .ensures .0) (c .before .before .before .write-state .ensures .1) (c .before .before .before .before .before .before .before .before .before .before .write-snapshot .ensures .0) (c .before .before .before .before .before .before .before .before .before .before .write-snapshot .ensures .1)), ((λ h. clash (sym shown ∙ h)), c .before .before .before .before .before .before .before .before .before .before .before .before .before .before .before .before .before .before .before .submit .ensures .1 .1 .0)),
     )
 
 code-of-requires-3 : tie.Need-code-of-requires-3
@@ -133,7 +133,7 @@ returns-5 c =
     let code = c .code-of3 .ensures in
     let shown : answers (c .code-of3 .result) ≡ true = ap (λ (m : ℕ). answers m) code ∙ answered (stateIn (a .state .now)) s w answering in (
       submit-code n k long wide code e,
-      (by-answer code e (reread-submits s (a .state .now) (a .snapshot .now) (c .before .before .before .before .before .write-snapshot .last .0) w answering (sym (c .before .before .is-computed .ensures) ∙ c .before .if4 .left) (c .before .before .before .before .before .write-snapshot .ensures .0) (c .before .before .before .before .before .write-snapshot .ensures .1)), ((λ h. clash (sym shown ∙ h)), c .before .before .before .before .before .before .before .before .before .before .before .before .before .before .submit .ensures .1 .1)),
+      (by-answer code e (reread-submits s (a .state .now) (a .snapshot .now) (c .before .before .before .before .before .write-snapshot .last .0) w answering (sym (c .before .before .is-computed .ensures) ∙ c .before .if4 .left) (c .before .before .before .before .before .write-snapshot .ensures .0) (c .before .before .before .before .before .write-snapshot .ensures .1)), ((λ h. clash (sym shown ∙ h)), c .before .before .before .before .before .before .before .before .before .before .before .before .before .before .submit .ensures .1 .1 .0)),
     )
 
 pub kistovab-submit-spec : {M : Type 1} → statement M
