@@ -28,8 +28,14 @@ fn main() {
         };
         file.replace(1, mutant.old, mutant.new);
         let of_matcher = mutant.file == list::MATCHER;
-        let over = if of_matcher { "super::matcher" } else { "sonalign::matcher" };
-        let edited = engine.text.replace("use crate::matcher::", &format!("use {over}::"));
+        let over = if of_matcher {
+            "super::matcher"
+        } else {
+            "sonalign::matcher"
+        };
+        let edited = engine
+            .text
+            .replace("use crate::matcher::", &format!("use {over}::"));
         write(&folder, "engine.rs", &outside(&edited));
         write(&folder, "matcher.rs", &outside(&matcher.text));
         modules += &module(number, of_matcher);
@@ -59,7 +65,11 @@ fn module(number: usize, of_matcher: bool) -> String {
              include!(concat!(env!(\"OUT_DIR\"), \"/m{number}/{file}.rs\"));\n    }}\n"
         )
     };
-    let matcher = if of_matcher { include("matcher") } else { String::new() };
+    let matcher = if of_matcher {
+        include("matcher")
+    } else {
+        String::new()
+    };
     format!(
         "mod m{number} {{\n{matcher}{}    sonalign::running!(self::engine);\n    pub fn open(\n        \
          frames: &[sonalign::types::FeatureFrame],\n        hop: f64,\n        \

@@ -74,8 +74,10 @@ kinds! {
     Carried "pending carried",
     Carried2500 "pending carried at exactly 2,500",
     NotCarried2500 "pending not carried just past 2,500",
+    Carried80 "pending carried exactly 80 away",
     Moved "pending moved by more than 80",
     Held "pending held",
+    Held80 "pending held exactly 80 away",
     Held2500 "pending held at exactly 2,500",
     NotHeld2500 "pending not held just past 2,500",
     DroppedElsewhere "pending dropped by a peak elsewhere",
@@ -88,6 +90,7 @@ kinds! {
     NearOverSupported "near chain keeps a supported track",
     NearOverCoasting "near chain replaces a coasting track",
     LocalSupport "local support",
+    Local80 "local support exactly 80 away",
     LocalFails "local search without support",
     LocalOnly "local search alone",
     LocalAndWhole "local and whole search",
@@ -367,10 +370,15 @@ impl Kinds {
             self.add_if(Kind::Carried, near && since <= 2_500.0);
             self.add_if(Kind::Carried2500, near && since == 2_500.0);
             self.add_if(Kind::NotCarried2500, near && past);
+            let edge = (pending[0] - best).abs() == 80.0;
+            self.add_if(Kind::Carried80, edge && since <= 2_500.0);
             self.add_if(Kind::Moved, !near);
         } else {
             let clear = near && step.margin >= 0.06;
-            self.add_if(Kind::Held, step.after.pending.is_some());
+            let edge = (pending[0] - best).abs() == 80.0;
+            let held = step.after.pending.is_some();
+            self.add_if(Kind::Held, held);
+            self.add_if(Kind::Held80, held && edge);
             self.add_if(Kind::Held2500, clear && since == 2_500.0);
             self.add_if(Kind::NotHeld2500, clear && past);
             self.add_if(Kind::DroppedElsewhere, !near && step.margin >= 0.06);
@@ -384,6 +392,8 @@ impl Kinds {
         let over = since.is_some_and(|since| since > 1_500.0 && since < 1_600.0);
         self.add_if(Kind::CoastOver, over);
         self.add_if(Kind::LocalSupport, step.supported);
+        let moved = step.snapshot.diagnostics.offset_stability_ms;
+        self.add_if(Kind::Local80, moved == Some(80.0));
         self.add_if(Kind::LocalFails, tracked && !step.supported);
         self.add_if(Kind::LocalOnly, tracked && !step.whole);
         self.add_if(Kind::LocalAndWhole, tracked && step.whole);

@@ -367,3 +367,77 @@ fn named(fields: &[(usize, &str)], word: usize) -> String {
         format!("{name} [{}]", word - from)
     })
 }
+
+#[cfg(test)]
+mod tests {
+    use super::*;
+
+    fn settings() -> Settings {
+        Settings {
+            configuration: sonalign::types::Configuration::default(),
+            hop: 20.0,
+            frames: 40,
+            bands: 2,
+            start: -5.0,
+        }
+    }
+
+    /// Different numbers in all places, so that two that change places show.
+    fn filled() -> Vec<u64> {
+        let mut words: Vec<u64> = (0..STATE as u64).map(|n| float(n as f64 + 0.5)).collect();
+        let tags = [
+            place::PENDING,
+            place::ACCEPTED,
+            place::MILESTONES,
+            place::MILESTONES + 2,
+            place::MILESTONES + 4,
+            place::ENDPOINT,
+            place::HAS_SNAPSHOT,
+        ];
+        let in_snapshot = [3, 11, 13, 15, 18, 19, 61, 63, 70, 72, 74];
+        for tag in tags {
+            words[tag] = 1;
+        }
+        for tag in in_snapshot {
+            words[place::LAST_SNAPSHOT + tag] = 1;
+        }
+        for (word, number) in [(0, 4), (1, 3), (2, 4), (7, 5), (17, 9), (20, 8)] {
+            words[place::LAST_SNAPSHOT + word] = number;
+        }
+        for candidate in 0..MOST_CANDIDATES {
+            words[place::LAST_SNAPSHOT + 23 + 5 * candidate] = candidate as u64;
+        }
+        words
+    }
+
+    #[test]
+    fn words_are_read_as_they_are_written() {
+        let words = filled();
+        let written = state(&settings(), &kept(&words));
+        assert_eq!(written.len(), STATE);
+        assert_eq!(written[place::PENDING..], words[place::PENDING..]);
+        let shown = kept(&words).last_snapshot.map(|last| snapshot(&last));
+        let expected = [&[LAYOUT], &words[place::LAST_SNAPSHOT..]].concat();
+        assert_eq!(shown, Some(expected));
+        assert_eq!(snapshot(&snapshot_of(&[0; 76])).len(), SNAPSHOT);
+    }
+
+    #[test]
+    fn a_fresh_state_has_few_words() {
+        let words = state(&settings(), &Kept::FRESH);
+        assert_eq!(words[0], LAYOUT);
+        assert_eq!(words[place::HOP], float(20.0));
+        assert_eq!(words[place::FRAMES..=place::BANDS], [40, 2]);
+        assert_eq!(words[place::SEARCH], float(f64::NEG_INFINITY));
+        let rest = words.len() - place::MILESTONES;
+        assert_eq!(words[place::MILESTONES..], vec![0; rest]);
+    }
+
+    #[test]
+    fn enums_stand_in_their_order() {
+        assert!(STATES.iter().enumerate().all(|(n, &s)| s as usize == n));
+        assert!(PHASES.iter().enumerate().all(|(n, &s)| s as usize == n));
+        assert!(STAGES.iter().enumerate().all(|(n, &s)| s as usize == n));
+        assert!(REASONS.iter().enumerate().all(|(n, &s)| s as usize == n));
+    }
+}

@@ -319,47 +319,33 @@ pub fn repeats(mut random: Random) -> Session {
     scene.done("repeats")
 }
 
-/// Peaks at the ends of the reference and of a local range, which no parabola moves: offsets
-/// exactly 80 and 100 apart.
+/// A reference that the centred window fits in at two places only. No parabola moves a peak at its
+/// ends, so that offsets are exactly 80 apart, or 100.
 pub fn edges(mut random: Random) -> Session {
-    let apart = random.one_of(&[80.0, 80.0, 100.0, 81.0]);
-    let places = random.one_of(&[1, 2, 4, 5]);
-    let hop = apart / places as f64;
-    let frames = fewest(hop).max(lasting(2_600.0, hop));
-    let centred = frames - 2 * radius(hop);
-    let film = reference(
-        &mut random,
-        Sound::Noise,
-        hop,
-        0.0,
-        2,
-        centred + places + 2 * radius(hop),
-    );
-    // The first and the last places of the centred window in the reference.
-    let (first, last) = (0.0, places as f64);
-    let cut = {
-        // Only the frames that a centred window can lie on.
-        let mut film = film;
-        let keep = centred + places;
-        let all = film.times.len();
-        let rows = film.values.chunks_exact(all);
-        film.values = rows.flat_map(|row| row[..keep].to_vec()).collect();
-        film.times.truncate(keep);
-        film
-    };
-    let begin = -(radius(hop) as f64) * hop;
-    let configuration = ready(hop, frames);
-    let mut scene = Scene::new(random, hop, configuration, cut, frames, begin, 0.0);
+    let hop = random.one_of(&[500.0, 600.0, 750.0, 1_000.0]);
+    let frames = fewest(hop) + random.below(30);
     let context = radius(hop) as f64;
-    let mut place = first;
-    for _ in 0..14 {
-        scene.go_to(place - context);
+    let count = frames - 2 * radius(hop) + 1;
+    let bands = 2 + random.below(3);
+    let film = reference(&mut random, Sound::Noise, hop, 0.0, bands, count);
+    let configuration = ready(hop, frames);
+    let mut scene = Scene::new(random, hop, configuration, film, frames, 0.0, -context);
+    for _ in 0..7 {
+        scene.go_to(-context);
         scene.hear();
-        let ms = scene.random.one_of(&[200.0, 500.0, 1_000.0, 2_000.0]);
-        scene.after(ms);
-        if scene.random.one_in(3) {
-            place = if place == first { last } else { first };
+        let apart = scene
+            .random
+            .one_of(&[80.0, 80.0, -80.0, 100.0, -100.0, 81.0]);
+        scene.after(hop + apart).go_to(1.0 - context);
+        match scene.random.below(3) {
+            0 => scene.half(),
+            _ => scene.hear(),
         }
+        if scene.random.one_in(2) {
+            scene.after(95.0).hear();
+        }
+        // What comes next is a jump.
+        scene.now -= 9_000.0;
     }
     scene.done("edges")
 }

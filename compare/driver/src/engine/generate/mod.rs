@@ -27,7 +27,7 @@ pub fn session(n: u64) -> Session {
         17 => families::repeats(random),
         18 => margins::session(random),
         19 => families::edges(random),
-        20 if n / 24 % 16 == 0 => families::past_half(random, n / 24 / 16),
+        20 if (n / 24).is_multiple_of(16) => families::past_half(random, n / 24 / 16),
         20 => families::pulses(random),
         21 => families::extreme(random),
         22 => openings::session(random),
