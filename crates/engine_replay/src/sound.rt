@@ -35,7 +35,12 @@ fn sound_at(seed: u64, period: usize, band: usize, frame: usize) -> f32
 fn heard_at(seed: u64, period: usize, heard: Heard, band: usize, frame: usize) -> f32
     requires { ⌜ 0 < period ⌝ }
 {
-    let other = sound_at(seed % 65536 + 1 + heard.noise / 64 % 65536, 4096, band, frame);
+    let other = sound_at(
+        seed % 65536 + 1 + heard.noise / 64 % 65536,
+        4096,
+        band,
+        frame,
+    );
     if frame < heard.since {
         return other;
     }

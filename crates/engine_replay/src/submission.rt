@@ -106,8 +106,18 @@ fn submit_over(
     fine_squares: &[f64],
     coarse_squares: &[f64],
 ) -> Answers {
-    let f = faults::lent(s.fault, 1, kistovab_fine_length(o.frames, o.bands), fine.len());
-    let c = faults::lent(s.fault, 2, kistovab_coarse_length(o.frames, o.bands), coarse.len());
+    let f = faults::lent(
+        s.fault,
+        1,
+        kistovab_fine_length(o.frames, o.bands),
+        fine.len(),
+    );
+    let c = faults::lent(
+        s.fault,
+        2,
+        kistovab_coarse_length(o.frames, o.bands),
+        coarse.len(),
+    );
     let fs = faults::lent(
         s.fault,
         3,
