@@ -16,7 +16,7 @@ use std::process::ExitCode;
 use std::{env, io};
 
 const USAGE: &str = "\
-usage: run [--quick | --bench | --bench-engine | --list | --matcher-list | --sessions | --samples]
+usage: run [--quick | --bench | --bench-engine | --list | --matcher-list | --engine-list | --sessions | --samples]
        run --engine [--quick]
        run --session NUMBER
        run --mutants [WORDS OF A NAME]
@@ -46,6 +46,7 @@ fn main() -> ExitCode {
         },
         ["--list"] => print(&numbers::list::lines()),
         ["--matcher-list"] => print(&matcher::list::lines()),
+        ["--engine-list"] => print_engine_list(),
         ["--sessions"] => print_sessions(),
         ["--samples"] => print(&numbers::samples::lines()),
         _ => usage(),
@@ -63,6 +64,7 @@ fn check(effort: Effort) -> bool {
         numbers::check::check(effort),
         matcher::check::check(effort),
         sessions::check(),
+        engine::list::check(),
         engine::check::check(effort),
     ];
     parts.into_iter().all(|same| same)
@@ -83,6 +85,18 @@ fn print_mutants(words: &str) -> ExitCode {
     let (table, all) = engine::mutants::table(Effort::full(), words);
     let printed = print(&table);
     if all {
+        printed
+    } else {
+        ExitCode::FAILURE
+    }
+}
+
+/// The list, and to stderr what it reaches.
+fn print_engine_list() -> ExitCode {
+    let list = engine::list::list();
+    eprint!("{}", list.reached);
+    let printed = print(&list.text);
+    if list.whole {
         printed
     } else {
         ExitCode::FAILURE

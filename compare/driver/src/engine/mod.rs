@@ -7,6 +7,7 @@ mod both;
 pub mod check;
 mod generate;
 mod kinds;
+pub mod list;
 mod made;
 #[cfg(feature = "mutants")]
 pub mod mutants;

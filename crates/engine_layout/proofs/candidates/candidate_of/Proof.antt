@@ -4,33 +4,6 @@ use Rattle.engine_layout.specs.Layout.{candidateOf}
 use Rattle.engine_layout.proofs.candidates.candidate_of.Statement.{statement}
 use Rattle.engine_layout.proofs.candidates.candidate_of.Tie as tie
 
-shared-slice-read-word-float : tie.Need-shared-slice-read-word-float
-shared-slice-read-word-float c = search needs
-
-word-float-requires : tie.Need-word-float-requires
-word-float-requires c κs = search needs
-
-shared-slice-read-word-float-2 : tie.Need-shared-slice-read-word-float-2
-shared-slice-read-word-float-2 c = search needs
-
-word-float-requires-2 : tie.Need-word-float-requires-2
-word-float-requires-2 c κs = search needs
-
-shared-slice-read-t9 : tie.Need-shared-slice-read-t9
-shared-slice-read-t9 c = search needs
-
-shared-slice-read-word-float-3 : tie.Need-shared-slice-read-word-float-3
-shared-slice-read-word-float-3 c = search needs
-
-word-float-requires-3 : tie.Need-word-float-requires-3
-word-float-requires-3 c κs = search needs
-
-shared-slice-read-word-float-4 : tie.Need-shared-slice-read-word-float-4
-shared-slice-read-word-float-4 c = search needs
-
-word-float-requires-4 : tie.Need-word-float-requires-4
-word-float-requires-4 c κs = search needs
-
 returns : tie.Need-returns
 unfolding candidateOf
 returns c = simp (← (c .before .before .before .before .before .before .before .word-float .ensures), ← (c .before .before .before .before .before .word-float2 .ensures), ← (c .before .before .word-float3 .ensures), ← (c .word-float4 .ensures))
@@ -39,13 +12,13 @@ pub candidate-of-spec : {M : Type 1} → statement M
 candidate-of-spec =
     tie.close
     (tie.spec
-    shared-slice-read-word-float
-    word-float-requires
-    shared-slice-read-word-float-2
-    word-float-requires-2
-    shared-slice-read-t9
-    shared-slice-read-word-float-3
-    word-float-requires-3
-    shared-slice-read-word-float-4
-    word-float-requires-4
+    (λ c. search needs)
+    (λ c κs. search needs)
+    (λ c. search needs)
+    (λ c κs. search needs)
+    (λ c. search needs)
+    (λ c. search needs)
+    (λ c κs. search needs)
+    (λ c. search needs)
+    (λ c κs. search needs)
     returns)

@@ -23,33 +23,6 @@ loop-holds : tie.Need-loop-holds Inv-loop μ-loop
 unfolding candidatesTo BackTo
 loop-holds c = (search needs, search needs, none-laid _ _, tt)
 
-mul-candidate : tie.Need-mul-candidate Inv-loop μ-loop
-mul-candidate c = search needs
-
-array-copy-out-candidate : tie.Need-array-copy-out-candidate Inv-loop μ-loop
-array-copy-out-candidate c = search needs
-
-candidate-words-requires : tie.Need-candidate-words-requires Inv-loop μ-loop
-candidate-words-requires c κs = search needs
-
-mul-put : tie.Need-mul-put Inv-loop μ-loop
-mul-put c = search needs
-
-add-put : tie.Need-add-put Inv-loop μ-loop
-add-put c = search needs
-
-slice-aggregate-put : tie.Need-slice-aggregate-put Inv-loop μ-loop
-slice-aggregate-put c = search needs
-
-put-requires : tie.Need-put-requires Inv-loop μ-loop
-put-requires c κs = search needs
-
-add-i : tie.Need-add-i Inv-loop μ-loop
-add-i c = search needs
-
-loop-less : tie.Need-loop-less Inv-loop μ-loop
-loop-less c = search needs
-
 loop-again : tie.Need-loop-again Inv-loop μ-loop
 unfolding BackTo
 loop-again c =
@@ -64,9 +37,6 @@ loop-again c =
       rw add-one (row-more (a .t3) (a .at) (l .i) (a .words .now) (l .words) (p .last .0) (row .result) (l .inv .2) (omega arith) (search needs) (row .ensures .0) (p .ensures)),
       rw add-one (l .inv .3, back),
     )
-
-same-length : tie.Need-same-length Inv-loop μ-loop
-same-length c = search needs
 
 returns : tie.Need-returns Inv-loop μ-loop
 returns c =
@@ -83,15 +53,15 @@ put-candidates-spec =
     Inv-loop
     μ-loop
     loop-holds
-    mul-candidate
-    array-copy-out-candidate
-    candidate-words-requires
-    mul-put
-    add-put
-    slice-aggregate-put
-    put-requires
-    add-i
-    loop-less
+    (λ c. search needs)
+    (λ c. search needs)
+    (λ c κs. search needs)
+    (λ c. search needs)
+    (λ c. search needs)
+    (λ c. search needs)
+    (λ c κs. search needs)
+    (λ c. search needs)
+    (λ c. search needs)
     loop-again
-    same-length
+    (λ c. search needs)
     returns)

@@ -5,15 +5,6 @@ use Rattle.engine_layout.specs.Written.{endpointTag, endpointWord}
 use Rattle.engine_layout.proofs.options.endpoint_word.Statement.{statement}
 use Rattle.engine_layout.proofs.options.endpoint_word.Tie as tie
 
-enum-told : tie.Need-enum-told
-enum-told c = search needs
-
-enum-known-e : tie.Need-enum-known-e
-enum-known-e c = search needs
-
-float-word-requires : tie.Need-float-word-requires
-float-word-requires c κs = search needs
-
 returns : tie.Need-returns
 unfolding endpointOf endpointTag endpointWord
 returns c = (simp (c .enum-told .given .1), simp (c .enum-told .given .1))
@@ -24,4 +15,9 @@ returns-2 c = (simp (c .before .before .e .given .1, c .float-word .ensures .0),
 
 pub endpoint-word-spec : {M : Type 1} → statement M
 endpoint-word-spec =
-    tie.close (tie.spec enum-told enum-known-e float-word-requires returns returns-2)
+    tie.close (tie.spec
+    (λ c. search needs)
+    (λ c. search needs)
+    (λ c κs. search needs)
+    returns
+    returns-2)

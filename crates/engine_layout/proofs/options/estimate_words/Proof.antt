@@ -5,21 +5,6 @@ use Rattle.engine_layout.specs.Written.{estimateWords}
 use Rattle.engine_layout.proofs.options.estimate_words.Statement.{statement}
 use Rattle.engine_layout.proofs.options.estimate_words.Tie as tie
 
-enum-told : tie.Need-enum-told
-enum-told c = search needs
-
-enum-known-e : tie.Need-enum-known-e
-enum-known-e c = search needs
-
-float-word-requires : tie.Need-float-word-requires
-float-word-requires c κs = search needs
-
-float-word-requires-2 : tie.Need-float-word-requires-2
-float-word-requires-2 c κs = search needs
-
-float-word-requires-3 : tie.Need-float-word-requires-3
-float-word-requires-3 c κs = search needs
-
 returns : tie.Need-returns
 unfolding estimateWords estimateOf
 returns c = (simp (c .enum-told .given .1), simp (c .enum-told .given .1))
@@ -32,10 +17,10 @@ pub estimate-words-spec : {M : Type 1} → statement M
 estimate-words-spec =
     tie.close
     (tie.spec
-    enum-told
-    enum-known-e
-    float-word-requires
-    float-word-requires-2
-    float-word-requires-3
+    (λ c. search needs)
+    (λ c. search needs)
+    (λ c κs. search needs)
+    (λ c κs. search needs)
+    (λ c κs. search needs)
     returns
     returns-2)

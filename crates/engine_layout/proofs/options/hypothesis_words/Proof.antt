@@ -5,24 +5,6 @@ use Rattle.engine_layout.specs.Written.{hypothesisWords}
 use Rattle.engine_layout.proofs.options.hypothesis_words.Statement.{statement}
 use Rattle.engine_layout.proofs.options.hypothesis_words.Tie as tie
 
-enum-told : tie.Need-enum-told
-enum-told c = search needs
-
-enum-known-h : tie.Need-enum-known-h
-enum-known-h c = search needs
-
-float-word-requires : tie.Need-float-word-requires
-float-word-requires c κs = search needs
-
-float-word-requires-2 : tie.Need-float-word-requires-2
-float-word-requires-2 c κs = search needs
-
-float-word-requires-3 : tie.Need-float-word-requires-3
-float-word-requires-3 c κs = search needs
-
-float-word-requires-4 : tie.Need-float-word-requires-4
-float-word-requires-4 c κs = search needs
-
 returns : tie.Need-returns
 unfolding hypothesisWords hypothesisOf
 returns c = (simp (c .enum-told .given .1), simp (c .enum-told .given .1))
@@ -35,11 +17,11 @@ pub hypothesis-words-spec : {M : Type 1} → statement M
 hypothesis-words-spec =
     tie.close
     (tie.spec
-    enum-told
-    enum-known-h
-    float-word-requires
-    float-word-requires-2
-    float-word-requires-3
-    float-word-requires-4
+    (λ c. search needs)
+    (λ c. search needs)
+    (λ c κs. search needs)
+    (λ c κs. search needs)
+    (λ c κs. search needs)
+    (λ c κs. search needs)
     returns
     returns-2)

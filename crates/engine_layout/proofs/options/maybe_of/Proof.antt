@@ -5,9 +5,6 @@ use Rattle.engine_layout.specs.Layout.{maybeOf}
 use Rattle.engine_layout.proofs.options.maybe_of.Statement.{statement}
 use Rattle.engine_layout.proofs.options.maybe_of.Tie as tie
 
-word-float-requires : tie.Need-word-float-requires
-word-float-requires c κs = search needs
-
 returns : tie.Need-returns
 unfolding maybeOf
 returns c = simp (eq-eqb _ _ (c .before .if1 .taken), ← (c .word-float .ensures))
@@ -17,4 +14,4 @@ unfolding maybeOf
 returns-2 c = simp (ne-eqb _ _ (c .if1 .left))
 
 pub maybe-of-spec : {M : Type 1} → statement M
-maybe-of-spec = tie.close (tie.spec word-float-requires returns returns-2)
+maybe-of-spec = tie.close (tie.spec (λ c κs. search needs) returns returns-2)

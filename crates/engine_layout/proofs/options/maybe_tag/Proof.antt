@@ -4,12 +4,6 @@ use Rattle.engine_layout.specs.Written.{maybeTag}
 use Rattle.engine_layout.proofs.options.maybe_tag.Statement.{statement}
 use Rattle.engine_layout.proofs.options.maybe_tag.Tie as tie
 
-enum-told : tie.Need-enum-told
-enum-told c = search needs
-
-enum-told-2 : tie.Need-enum-told-2
-enum-told-2 c = search needs
-
 returns : tie.Need-returns
 unfolding maybeTag
 returns c = simp (c .enum-told .given .1)
@@ -19,4 +13,4 @@ unfolding maybeTag
 returns-2 c = simp (c .enum-told2 .given .1)
 
 pub maybe-tag-spec : {M : Type 1} → statement M
-maybe-tag-spec = tie.close (tie.spec enum-told enum-told-2 returns returns-2)
+maybe-tag-spec = tie.close (tie.spec (λ c. search needs) (λ c. search needs) returns returns-2)

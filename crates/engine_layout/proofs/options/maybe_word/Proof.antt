@@ -5,15 +5,6 @@ use Rattle.engine_layout.specs.Written.{maybeTag, maybeWord}
 use Rattle.engine_layout.proofs.options.maybe_word.Statement.{statement}
 use Rattle.engine_layout.proofs.options.maybe_word.Tie as tie
 
-enum-told : tie.Need-enum-told
-enum-told c = search needs
-
-enum-known-m : tie.Need-enum-known-m
-enum-known-m c = search needs
-
-float-word-requires : tie.Need-float-word-requires
-float-word-requires c κs = search needs
-
 returns : tie.Need-returns
 unfolding maybeOf maybeTag maybeWord
 returns c = (simp (c .enum-told .given .1), simp (c .enum-told .given .1))
@@ -23,4 +14,11 @@ unfolding maybeOf maybeTag maybeWord
 returns-2 c = (simp (c .before .before .m .given .1, c .float-word .ensures .0), simp (c .before .before .m .given .1, ← (c .float-word .ensures .1)))
 
 pub maybe-word-spec : {M : Type 1} → statement M
-maybe-word-spec = tie.close (tie.spec enum-told enum-known-m float-word-requires returns returns-2)
+maybe-word-spec =
+    tie.close
+    (tie.spec
+    (λ c. search needs)
+    (λ c. search needs)
+    (λ c κs. search needs)
+    returns
+    returns-2)

@@ -5,9 +5,6 @@ use Rattle.engine_layout.specs.Layout.{milestoneOf}
 use Rattle.engine_layout.proofs.options.milestone_of.Statement.{statement}
 use Rattle.engine_layout.proofs.options.milestone_of.Tie as tie
 
-word-float-requires : tie.Need-word-float-requires
-word-float-requires c κs = search needs
-
 returns : tie.Need-returns
 unfolding milestoneOf
 returns c = simp (eq-eqb _ _ (c .before .if1 .taken), ← (c .word-float .ensures))
@@ -17,4 +14,4 @@ unfolding milestoneOf
 returns-2 c = simp (ne-eqb _ _ (c .if1 .left))
 
 pub milestone-of-spec : {M : Type 1} → statement M
-milestone-of-spec = tie.close (tie.spec word-float-requires returns returns-2)
+milestone-of-spec = tie.close (tie.spec (λ c κs. search needs) returns returns-2)

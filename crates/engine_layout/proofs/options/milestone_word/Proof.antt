@@ -5,15 +5,6 @@ use Rattle.engine_layout.specs.Written.{milestoneTag, milestoneWord}
 use Rattle.engine_layout.proofs.options.milestone_word.Statement.{statement}
 use Rattle.engine_layout.proofs.options.milestone_word.Tie as tie
 
-enum-told : tie.Need-enum-told
-enum-told c = search needs
-
-enum-known-m : tie.Need-enum-known-m
-enum-known-m c = search needs
-
-float-word-requires : tie.Need-float-word-requires
-float-word-requires c κs = search needs
-
 returns : tie.Need-returns
 unfolding milestoneOf milestoneTag milestoneWord
 returns c = (simp (c .enum-told .given .1), simp (c .enum-told .given .1))
@@ -24,4 +15,9 @@ returns-2 c = (simp (c .before .before .m .given .1, c .float-word .ensures .0),
 
 pub milestone-word-spec : {M : Type 1} → statement M
 milestone-word-spec =
-    tie.close (tie.spec enum-told enum-known-m float-word-requires returns returns-2)
+    tie.close (tie.spec
+    (λ c. search needs)
+    (λ c. search needs)
+    (λ c κs. search needs)
+    returns
+    returns-2)

@@ -5,24 +5,6 @@ use Rattle.engine_layout.specs.Layout.{milestonesOf}
 use Rattle.engine_words.proofs.snapshots.milestones_words.Statement.{statement}
 use Rattle.engine_words.proofs.snapshots.milestones_words.Tie as tie
 
-milestone-tag-requires : tie.Need-milestone-tag-requires
-milestone-tag-requires c κs = search needs
-
-milestone-word-requires : tie.Need-milestone-word-requires
-milestone-word-requires c κs = search needs
-
-milestone-tag-requires-2 : tie.Need-milestone-tag-requires-2
-milestone-tag-requires-2 c κs = search needs
-
-milestone-word-requires-2 : tie.Need-milestone-word-requires-2
-milestone-word-requires-2 c κs = search needs
-
-milestone-tag-requires-3 : tie.Need-milestone-tag-requires-3
-milestone-tag-requires-3 c κs = search needs
-
-milestone-word-requires-3 : tie.Need-milestone-word-requires-3
-milestone-word-requires-3 c κs = search needs
-
 returns : tie.Need-returns
 unfolding milestonesWords milestonesOf
 returns c =
@@ -35,10 +17,10 @@ pub milestones-words-spec : {M : Type 1} → statement M
 milestones-words-spec =
     tie.close
     (tie.spec
-    milestone-tag-requires
-    milestone-word-requires
-    milestone-tag-requires-2
-    milestone-word-requires-2
-    milestone-tag-requires-3
-    milestone-word-requires-3
+    (λ c κs. search needs)
+    (λ c κs. search needs)
+    (λ c κs. search needs)
+    (λ c κs. search needs)
+    (λ c κs. search needs)
+    (λ c κs. search needs)
     returns)

@@ -13,36 +13,6 @@ use Rattle.engine_words.proofs.Lengths.{numbers-long, candidates-long, 
 use Rattle.engine_words.proofs.snapshots.put_diagnostics.Statement.{statement}
 use Rattle.engine_words.proofs.snapshots.put_diagnostics.Tie as tie
 
-diagnostics-words-requires : tie.Need-diagnostics-words-requires
-diagnostics-words-requires c κs = search needs
-
-slice-aggregate-put : tie.Need-slice-aggregate-put
-slice-aggregate-put c = search needs
-
-put-requires : tie.Need-put-requires
-put-requires c κs = search needs
-
-add-put-candidates : tie.Need-add-put-candidates
-add-put-candidates c = search needs
-
-put-candidates-requires : tie.Need-put-candidates-requires
-put-candidates-requires c κs = search needs
-
-spectral-words-requires : tie.Need-spectral-words-requires
-spectral-words-requires c κs = search needs
-
-add-put : tie.Need-add-put
-add-put c = search needs
-
-slice-aggregate-put-2 : tie.Need-slice-aggregate-put-2
-slice-aggregate-put-2 c = search needs
-
-put-requires-2 : tie.Need-put-requires-2
-put-requires-2 c κs = search needs
-
-same-length : tie.Need-same-length
-same-length c = search needs
-
 returns : tie.Need-returns
 unfolding diagnosticsWords
 returns c =
@@ -65,14 +35,14 @@ pub put-diagnostics-spec : {M : Type 1} → statement M
 put-diagnostics-spec =
     tie.close
     (tie.spec
-    diagnostics-words-requires
-    slice-aggregate-put
-    put-requires
-    add-put-candidates
-    put-candidates-requires
-    spectral-words-requires
-    add-put
-    slice-aggregate-put-2
-    put-requires-2
-    same-length
+    (λ c κs. search needs)
+    (λ c. search needs)
+    (λ c κs. search needs)
+    (λ c. search needs)
+    (λ c κs. search needs)
+    (λ c κs. search needs)
+    (λ c. search needs)
+    (λ c. search needs)
+    (λ c κs. search needs)
+    (λ c. search needs)
     returns)

@@ -13,69 +13,6 @@ use Rattle.engine_words.proofs.Lengths.{estimate-long, diagnostics-long
 use Rattle.engine_words.proofs.snapshots.put_snapshot.Statement.{statement}
 use Rattle.engine_words.proofs.snapshots.put_snapshot.Tie as tie
 
-state-word-requires : tie.Need-state-word-requires
-state-word-requires c κs = search needs
-
-phase-word-requires : tie.Need-phase-word-requires
-phase-word-requires c κs = search needs
-
-stage-word-requires : tie.Need-stage-word-requires
-stage-word-requires c κs = search needs
-
-slice-aggregate-put : tie.Need-slice-aggregate-put
-slice-aggregate-put c = search needs
-
-put-requires : tie.Need-put-requires
-put-requires c κs = search needs
-
-estimate-words-requires : tie.Need-estimate-words-requires
-estimate-words-requires c κs = search needs
-
-add-put : tie.Need-add-put
-add-put c = search needs
-
-slice-aggregate-put-2 : tie.Need-slice-aggregate-put-2
-slice-aggregate-put-2 c = search needs
-
-put-requires-2 : tie.Need-put-requires-2
-put-requires-2 c κs = search needs
-
-reason-word-requires : tie.Need-reason-word-requires
-reason-word-requires c κs = search needs
-
-float-word-requires : tie.Need-float-word-requires
-float-word-requires c κs = search needs
-
-add-put-2 : tie.Need-add-put-2
-add-put-2 c = search needs
-
-slice-aggregate-put-3 : tie.Need-slice-aggregate-put-3
-slice-aggregate-put-3 c = search needs
-
-put-requires-3 : tie.Need-put-requires-3
-put-requires-3 c κs = search needs
-
-add-put-diagnostics : tie.Need-add-put-diagnostics
-add-put-diagnostics c = search needs
-
-put-diagnostics-requires : tie.Need-put-diagnostics-requires
-put-diagnostics-requires c κs = search needs
-
-milestones-words-requires : tie.Need-milestones-words-requires
-milestones-words-requires c κs = search needs
-
-add-put-3 : tie.Need-add-put-3
-add-put-3 c = search needs
-
-slice-aggregate-put-4 : tie.Need-slice-aggregate-put-4
-slice-aggregate-put-4 c = search needs
-
-put-requires-4 : tie.Need-put-requires-4
-put-requires-4 c κs = search needs
-
-same-length : tie.Need-same-length
-same-length c = search needs
-
 returns : tie.Need-returns
 unfolding shownWords
 returns c =
@@ -108,25 +45,25 @@ pub put-snapshot-spec : {M : Type 1} → statement M
 put-snapshot-spec =
     tie.close
     (tie.spec
-    state-word-requires
-    phase-word-requires
-    stage-word-requires
-    slice-aggregate-put
-    put-requires
-    estimate-words-requires
-    add-put
-    slice-aggregate-put-2
-    put-requires-2
-    reason-word-requires
-    float-word-requires
-    add-put-2
-    slice-aggregate-put-3
-    put-requires-3
-    add-put-diagnostics
-    put-diagnostics-requires
-    milestones-words-requires
-    add-put-3
-    slice-aggregate-put-4
-    put-requires-4
-    same-length
+    (λ c κs. search needs)
+    (λ c κs. search needs)
+    (λ c κs. search needs)
+    (λ c. search needs)
+    (λ c κs. search needs)
+    (λ c κs. search needs)
+    (λ c. search needs)
+    (λ c. search needs)
+    (λ c κs. search needs)
+    (λ c κs. search needs)
+    (λ c κs. search needs)
+    (λ c. search needs)
+    (λ c. search needs)
+    (λ c κs. search needs)
+    (λ c. search needs)
+    (λ c κs. search needs)
+    (λ c κs. search needs)
+    (λ c. search needs)
+    (λ c. search needs)
+    (λ c κs. search needs)
+    (λ c. search needs)
     returns)

@@ -13,18 +13,6 @@ use Rattle.engine_words.proofs.Lengths.{shown-long}
 use Rattle.engine_words.proofs.snapshots.write_snapshot.Statement.{statement}
 use Rattle.engine_words.proofs.snapshots.write_snapshot.Tie as tie
 
-slice-aggregate-put : tie.Need-slice-aggregate-put
-slice-aggregate-put c = search needs
-
-put-requires : tie.Need-put-requires
-put-requires c κs = search needs
-
-put-snapshot-requires : tie.Need-put-snapshot-requires
-put-snapshot-requires c κs = search needs
-
-same-length : tie.Need-same-length
-same-length c = search needs
-
 returns : tie.Need-returns
 returns c =
     let a = c .before .before .before .before .before .before .before .before .before .before .args in
@@ -37,4 +25,9 @@ returns c =
 
 pub write-snapshot-spec : {M : Type 1} → statement M
 write-snapshot-spec =
-    tie.close (tie.spec slice-aggregate-put put-requires put-snapshot-requires same-length returns)
+    tie.close (tie.spec
+    (λ c. search needs)
+    (λ c κs. search needs)
+    (λ c κs. search needs)
+    (λ c. search needs)
+    returns)

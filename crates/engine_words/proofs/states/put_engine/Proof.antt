@@ -13,33 +13,6 @@ use Rattle.engine_words.proofs.Lengths.{settings-long, lock-long, miles
 use Rattle.engine_words.proofs.states.put_engine.Statement.{statement}
 use Rattle.engine_words.proofs.states.put_engine.Tie as tie
 
-settings-words-requires : tie.Need-settings-words-requires
-settings-words-requires c κs = search needs
-
-slice-aggregate-put : tie.Need-slice-aggregate-put
-slice-aggregate-put c = search needs
-
-put-requires : tie.Need-put-requires
-put-requires c κs = search needs
-
-put-lock-requires : tie.Need-put-lock-requires
-put-lock-requires c κs = search needs
-
-milestones-words-requires : tie.Need-milestones-words-requires
-milestones-words-requires c κs = search needs
-
-slice-aggregate-put-2 : tie.Need-slice-aggregate-put-2
-slice-aggregate-put-2 c = search needs
-
-put-requires-2 : tie.Need-put-requires-2
-put-requires-2 c κs = search needs
-
-put-last-requires : tie.Need-put-last-requires
-put-last-requires c κs = search needs
-
-same-length : tie.Need-same-length
-same-length c = search needs
-
 returns : tie.Need-returns
 unfolding engineWords
 returns c =
@@ -66,13 +39,13 @@ pub put-engine-spec : {M : Type 1} → statement M
 put-engine-spec =
     tie.close
     (tie.spec
-    settings-words-requires
-    slice-aggregate-put
-    put-requires
-    put-lock-requires
-    milestones-words-requires
-    slice-aggregate-put-2
-    put-requires-2
-    put-last-requires
-    same-length
+    (λ c κs. search needs)
+    (λ c. search needs)
+    (λ c κs. search needs)
+    (λ c κs. search needs)
+    (λ c κs. search needs)
+    (λ c. search needs)
+    (λ c κs. search needs)
+    (λ c κs. search needs)
+    (λ c. search needs)
     returns)

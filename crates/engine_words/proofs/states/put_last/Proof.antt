@@ -13,30 +13,6 @@ use Rattle.engine_words.proofs.Lengths.{shown-long}
 use Rattle.engine_words.proofs.states.put_last.Statement.{statement}
 use Rattle.engine_words.proofs.states.put_last.Tie as tie
 
-endpoint-tag-requires : tie.Need-endpoint-tag-requires
-endpoint-tag-requires c κs = search needs
-
-endpoint-word-requires : tie.Need-endpoint-word-requires
-endpoint-word-requires c κs = search needs
-
-bool-word-requires : tie.Need-bool-word-requires
-bool-word-requires c κs = search needs
-
-slice-aggregate-put : tie.Need-slice-aggregate-put
-slice-aggregate-put c = search needs
-
-put-requires : tie.Need-put-requires
-put-requires c κs = search needs
-
-add-put-snapshot : tie.Need-add-put-snapshot
-add-put-snapshot c = search needs
-
-put-snapshot-requires : tie.Need-put-snapshot-requires
-put-snapshot-requires c κs = search needs
-
-same-length : tie.Need-same-length
-same-length c = search needs
-
 returns : tie.Need-returns
 unfolding lastWords
 returns c =
@@ -58,12 +34,12 @@ pub put-last-spec : {M : Type 1} → statement M
 put-last-spec =
     tie.close
     (tie.spec
-    endpoint-tag-requires
-    endpoint-word-requires
-    bool-word-requires
-    slice-aggregate-put
-    put-requires
-    add-put-snapshot
-    put-snapshot-requires
-    same-length
+    (λ c κs. search needs)
+    (λ c κs. search needs)
+    (λ c κs. search needs)
+    (λ c. search needs)
+    (λ c κs. search needs)
+    (λ c. search needs)
+    (λ c κs. search needs)
+    (λ c. search needs)
     returns)

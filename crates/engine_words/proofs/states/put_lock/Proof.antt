@@ -13,42 +13,6 @@ use Rattle.engine_words.proofs.Lengths.{hypothesis-long}
 use Rattle.engine_words.proofs.states.put_lock.Statement.{statement}
 use Rattle.engine_words.proofs.states.put_lock.Tie as tie
 
-hypothesis-words-requires : tie.Need-hypothesis-words-requires
-hypothesis-words-requires c κs = search needs
-
-slice-aggregate-put : tie.Need-slice-aggregate-put
-slice-aggregate-put c = search needs
-
-put-requires : tie.Need-put-requires
-put-requires c κs = search needs
-
-hypothesis-words-requires-2 : tie.Need-hypothesis-words-requires-2
-hypothesis-words-requires-2 c κs = search needs
-
-add-put : tie.Need-add-put
-add-put c = search needs
-
-slice-aggregate-put-2 : tie.Need-slice-aggregate-put-2
-slice-aggregate-put-2 c = search needs
-
-put-requires-2 : tie.Need-put-requires-2
-put-requires-2 c κs = search needs
-
-float-word-requires : tie.Need-float-word-requires
-float-word-requires c κs = search needs
-
-add-put-2 : tie.Need-add-put-2
-add-put-2 c = search needs
-
-slice-aggregate-put-3 : tie.Need-slice-aggregate-put-3
-slice-aggregate-put-3 c = search needs
-
-put-requires-3 : tie.Need-put-requires-3
-put-requires-3 c κs = search needs
-
-same-length : tie.Need-same-length
-same-length c = search needs
-
 returns : tie.Need-returns
 unfolding lockWords
 returns c =
@@ -73,16 +37,16 @@ pub put-lock-spec : {M : Type 1} → statement M
 put-lock-spec =
     tie.close
     (tie.spec
-    hypothesis-words-requires
-    slice-aggregate-put
-    put-requires
-    hypothesis-words-requires-2
-    add-put
-    slice-aggregate-put-2
-    put-requires-2
-    float-word-requires
-    add-put-2
-    slice-aggregate-put-3
-    put-requires-3
-    same-length
+    (λ c κs. search needs)
+    (λ c. search needs)
+    (λ c κs. search needs)
+    (λ c κs. search needs)
+    (λ c. search needs)
+    (λ c. search needs)
+    (λ c κs. search needs)
+    (λ c κs. search needs)
+    (λ c. search needs)
+    (λ c. search needs)
+    (λ c κs. search needs)
+    (λ c. search needs)
     returns)

@@ -8,33 +8,6 @@ use Rattle.engine_layout.specs.Layout.{settingsOf, configurationOf}
 use Rattle.engine_words.proofs.states.settings_words.Statement.{statement}
 use Rattle.engine_words.proofs.states.settings_words.Tie as tie
 
-float-word-requires : tie.Need-float-word-requires
-float-word-requires c κs = search needs
-
-float-word-requires-2 : tie.Need-float-word-requires-2
-float-word-requires-2 c κs = search needs
-
-float-word-requires-3 : tie.Need-float-word-requires-3
-float-word-requires-3 c κs = search needs
-
-float-word-requires-4 : tie.Need-float-word-requires-4
-float-word-requires-4 c κs = search needs
-
-float-word-requires-5 : tie.Need-float-word-requires-5
-float-word-requires-5 c κs = search needs
-
-float-word-requires-6 : tie.Need-float-word-requires-6
-float-word-requires-6 c κs = search needs
-
-cast-t9 : tie.Need-cast-t9
-cast-t9 c = search needs
-
-cast-t10 : tie.Need-cast-t10
-cast-t10 c = search needs
-
-float-word-requires-7 : tie.Need-float-word-requires-7
-float-word-requires-7 c κs = search needs
-
 returns : tie.Need-returns
 unfolding settingsWords settingsOf configurationOf
 returns c =
@@ -47,13 +20,13 @@ pub settings-words-spec : {M : Type 1} → statement M
 settings-words-spec =
     tie.close
     (tie.spec
-    float-word-requires
-    float-word-requires-2
-    float-word-requires-3
-    float-word-requires-4
-    float-word-requires-5
-    float-word-requires-6
-    cast-t9
-    cast-t10
-    float-word-requires-7
+    (λ c κs. search needs)
+    (λ c κs. search needs)
+    (λ c κs. search needs)
+    (λ c κs. search needs)
+    (λ c κs. search needs)
+    (λ c κs. search needs)
+    (λ c. search needs)
+    (λ c. search needs)
+    (λ c κs. search needs)
     returns)

@@ -15,27 +15,6 @@ use Rattle.kistovab.proofs.calls.kistovab_open.Tie as tie
 returns : tie.Need-returns
 returns c = (short-code _ _ (lt-ltb _ _ (c .if1 .taken)), (short-opens _ _, (short-index _ _ _ (lt-ltb _ _ (c .if1 .taken)), λ h. absurd (omega arith))))
 
-open-requires : tie.Need-open-requires
-open-requires c κs = search needs
-
-is-refusal-requires : tie.Need-is-refusal-requires
-is-refusal-requires c κs = search needs
-
-code-of-requires : tie.Need-code-of-requires
-code-of-requires c κs = search needs
-
-same-length : tie.Need-same-length
-same-length c = search needs
-
-same-length-2 : tie.Need-same-length-2
-same-length-2 c = search needs
-
-same-length-3 : tie.Need-same-length-3
-same-length-3 c = search needs
-
-same-length-4 : tie.Need-same-length-4
-same-length-4 c = search needs
-
 returns-2 : tie.Need-returns-2
 returns-2 c =
     let a = c .before .before .before .before .before .before .before .before .before .before .before .before .before .before .before .before .before .before .before .before .before .before .before .before .args in
@@ -48,27 +27,6 @@ returns-2 c =
     let refusing : refuses (o .answer) ≡ true = sym (c .before .before .is-refusal .ensures) ∙ c .before .if2 .taken in
     let code = c .code-of .ensures in
     (open-code n long code e, (refused-opens (a .state .now) code e refusing, (index-after n x long (c .before .before .before .before .before .before .before .before .before .before .before .«open» .ensures .1 .0), λ h. guaranteed-of e (c .before .before .before .before .before .before .before .before .before .before .before .«open» .ensures .1 .1))))
-
-write-state-requires : tie.Need-write-state-requires
-write-state-requires c κs = search needs
-
-code-of-requires-2 : tie.Need-code-of-requires-2
-code-of-requires-2 c κs = search needs
-
-same-length-5 : tie.Need-same-length-5
-same-length-5 c = search needs
-
-same-length-6 : tie.Need-same-length-6
-same-length-6 c = search needs
-
-same-length-7 : tie.Need-same-length-7
-same-length-7 c = search needs
-
-same-length-8 : tie.Need-same-length-8
-same-length-8 c = search needs
-
-same-length-9 : tie.Need-same-length-9
-same-length-9 c = search needs
 
 returns-3 : tie.Need-returns-3
 returns-3 c =
@@ -90,19 +48,19 @@ kistovab-open-spec =
     tie.close
     (tie.spec
     returns
-    open-requires
-    is-refusal-requires
-    code-of-requires
-    same-length
-    same-length-2
-    same-length-3
-    same-length-4
+    (λ c κs. search needs)
+    (λ c κs. search needs)
+    (λ c κs. search needs)
+    (λ c. search needs)
+    (λ c. search needs)
+    (λ c. search needs)
+    (λ c. search needs)
     returns-2
-    write-state-requires
-    code-of-requires-2
-    same-length-5
-    same-length-6
-    same-length-7
-    same-length-8
-    same-length-9
+    (λ c κs. search needs)
+    (λ c κs. search needs)
+    (λ c. search needs)
+    (λ c. search needs)
+    (λ c. search needs)
+    (λ c. search needs)
+    (λ c. search needs)
     returns-3)

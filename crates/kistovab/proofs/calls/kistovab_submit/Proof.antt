@@ -20,27 +20,6 @@ returns c = (few-words _ _ _ (lt-ltb _ _ (c .if1 .taken)), (short-submits _ _ _,
 returns-2 : tie.Need-returns-2
 returns-2 c = (few-shown _ _ _ (le-ltb _ _ (c .before .if1 .left)) (lt-ltb _ _ (c .if2 .taken)), (short-submits _ _ _, ((λ h. (refl, refl)), (refl, refl))))
 
-read-state-requires : tie.Need-read-state-requires
-read-state-requires c κs = search needs
-
-submit-requires : tie.Need-submit-requires
-submit-requires c κs = search needs
-
-is-refusal-requires : tie.Need-is-refusal-requires
-is-refusal-requires c κs = search needs
-
-code-of-requires : tie.Need-code-of-requires
-code-of-requires c κs = search needs
-
-same-length : tie.Need-same-length
-same-length c = search needs
-
-same-length-2 : tie.Need-same-length-2
-same-length-2 c = search needs
-
-same-length-3 : tie.Need-same-length-3
-same-length-3 c = search needs
-
 returns-3 : tie.Need-returns-3
 returns-3 c =
     let a = c .before .before .before .before .before .before .before .before .before .before .before .before .before .before .before .before .before .before .before .before .before .before .before .before .before .args in
@@ -58,30 +37,6 @@ returns-3 c =
       submit-code n k long wide code e,
       (by-answer code e (refused-submits s (a .state .now) (a .snapshot .now) w refusing), ((λ h. c .before .before .before .before .before .before .before .submit .ensures .1 .0 refusing), c .before .before .before .before .before .before .before .submit .ensures .1 .1 .0)),
     )
-
-write-snapshot-requires : tie.Need-write-snapshot-requires
-write-snapshot-requires c κs = search needs
-
-is-computed-requires : tie.Need-is-computed-requires
-is-computed-requires c κs = search needs
-
-write-state-requires : tie.Need-write-state-requires
-write-state-requires c κs = search needs
-
-code-of-requires-2 : tie.Need-code-of-requires-2
-code-of-requires-2 c κs = search needs
-
-same-length-4 : tie.Need-same-length-4
-same-length-4 c = search needs
-
-same-length-5 : tie.Need-same-length-5
-same-length-5 c = search needs
-
-same-length-6 : tie.Need-same-length-6
-same-length-6 c = search needs
-
-same-length-7 : tie.Need-same-length-7
-same-length-7 c = search needs
 
 returns-4 : tie.Need-returns-4
 returns-4 c =
@@ -101,21 +56,6 @@ returns-4 c =
       submit-code n k long wide code e,
       (by-answer code e (computed-submits s (a .state .now) (c .before .before .before .write-state .last .0) (a .snapshot .now) (c .before .before .before .before .before .before .before .before .before .before .write-snapshot .last .0) w (sym (c .before .before .before .before .before .before .before .is-computed .ensures) ∙ c .before .before .before .before .before .before .if4 .taken) (c .before .before .before .write-state .ensures .0) (c .before .before .before .write-state .ensures .1) (c .before .before .before .before .before .before .before .before .before .before .write-snapshot .ensures .0) (c .before .before .before .before .before .before .before .before .before .before .write-snapshot .ensures .1)), ((λ h. clash (sym shown ∙ h)), c .before .before .before .before .before .before .before .before .before .before .before .before .before .before .before .before .before .before .before .submit .ensures .1 .1 .0)),
     )
-
-code-of-requires-3 : tie.Need-code-of-requires-3
-code-of-requires-3 c κs = search needs
-
-same-length-8 : tie.Need-same-length-8
-same-length-8 c = search needs
-
-same-length-9 : tie.Need-same-length-9
-same-length-9 c = search needs
-
-same-length-10 : tie.Need-same-length-10
-same-length-10 c = search needs
-
-same-length-11 : tie.Need-same-length-11
-same-length-11 c = search needs
 
 returns-5 : tie.Need-returns-5
 returns-5 c =
@@ -142,26 +82,26 @@ kistovab-submit-spec =
     (tie.spec
     returns
     returns-2
-    read-state-requires
-    submit-requires
-    is-refusal-requires
-    code-of-requires
-    same-length
-    same-length-2
-    same-length-3
+    (λ c κs. search needs)
+    (λ c κs. search needs)
+    (λ c κs. search needs)
+    (λ c κs. search needs)
+    (λ c. search needs)
+    (λ c. search needs)
+    (λ c. search needs)
     returns-3
-    write-snapshot-requires
-    is-computed-requires
-    write-state-requires
-    code-of-requires-2
-    same-length-4
-    same-length-5
-    same-length-6
-    same-length-7
+    (λ c κs. search needs)
+    (λ c κs. search needs)
+    (λ c κs. search needs)
+    (λ c κs. search needs)
+    (λ c. search needs)
+    (λ c. search needs)
+    (λ c. search needs)
+    (λ c. search needs)
     returns-4
-    code-of-requires-3
-    same-length-8
-    same-length-9
-    same-length-10
-    same-length-11
+    (λ c κs. search needs)
+    (λ c. search needs)
+    (λ c. search needs)
+    (λ c. search needs)
+    (λ c. search needs)
     returns-5)

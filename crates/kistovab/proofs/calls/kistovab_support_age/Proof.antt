@@ -14,26 +14,8 @@ returns : tie.Need-returns
 unfolding ageCode ageAfter
 returns c = (simp (lt-ltb _ _ (c .if1 .taken)), simp (lt-ltb _ _ (c .if1 .taken)))
 
-read-state-requires : tie.Need-read-state-requires
-read-state-requires c κs = search needs
-
-support-age-requires : tie.Need-support-age-requires
-support-age-requires c κs = search needs
-
-is-refusal-requires : tie.Need-is-refusal-requires
-is-refusal-requires c κs = search needs
-
-code-of-requires : tie.Need-code-of-requires
-code-of-requires c κs = search needs
-
 returns-2 : tie.Need-returns-2
 returns-2 c = age-refused (length (c .before .before .before .before .before .before .before .args .state .now)) (c .before .before .before .before .before .before .before .args .age .now) (le-ltb _ _ (c .before .before .before .before .before .if1 .left)) (c .before .before .before .support-age .ensures ∙ ap supportAge (c .before .before .before .before .read-state .ensures)) (sym (c .before .before .is-refusal .ensures) ∙ c .before .if2 .taken) (c .code-of .ensures)
-
-enum-told : tie.Need-enum-told
-enum-told c = search needs
-
-enum-known-coast : tie.Need-enum-known-coast
-enum-known-coast c = search needs
 
 returns-3 : tie.Need-returns-3
 unfolding foundCode found
@@ -48,12 +30,12 @@ kistovab-support-age-spec =
     tie.close
     (tie.spec
     returns
-    read-state-requires
-    support-age-requires
-    is-refusal-requires
-    code-of-requires
+    (λ c κs. search needs)
+    (λ c κs. search needs)
+    (λ c κs. search needs)
+    (λ c κs. search needs)
     returns-2
-    enum-told
-    enum-known-coast
+    (λ c. search needs)
+    (λ c. search needs)
     returns-3
     returns-4)

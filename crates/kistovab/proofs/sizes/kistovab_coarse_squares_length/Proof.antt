@@ -16,9 +16,6 @@ returns-2 : tie.Need-returns-2
 unfolding coarseSquaresLength
 returns-2 c = simp (le-leb _ _ (c .before .if1 .left), lt-leb _ _ (c .if2 .taken))
 
-add-result : tie.Need-add-result
-add-result c = search needs
-
 mul-result : tie.Need-mul-result
 mul-result c =
     let a = c .before .before .args in
@@ -31,4 +28,4 @@ returns-3 c = simp (le-leb _ _ (c .before .if1 .left), le-leb _ _ (c .if2 .left)
 
 pub kistovab-coarse-squares-length-spec : {M : Type 1} → statement M
 kistovab-coarse-squares-length-spec =
-    tie.close (tie.spec returns returns-2 add-result mul-result returns-3)
+    tie.close (tie.spec returns returns-2 (λ c. search needs) mul-result returns-3)

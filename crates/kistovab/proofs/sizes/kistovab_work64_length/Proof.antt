@@ -20,12 +20,6 @@ returns-3 : tie.Need-returns-3
 unfolding work64Length
 returns-3 c = simp (le-leb _ _ (c .before .before .if1 .left), le-leb _ _ (c .before .if2 .left), lt-leb _ _ (c .if3 .taken))
 
-mul-result : tie.Need-mul-result
-mul-result c = search needs
-
-add-result : tie.Need-add-result
-add-result c = search needs
-
 mul-result-2 : tie.Need-mul-result-2
 mul-result-2 c =
     let a = c .before .before .before .args in
@@ -49,8 +43,8 @@ kistovab-work64-length-spec =
     returns
     returns-2
     returns-3
-    mul-result
-    add-result
+    (λ c. search needs)
+    (λ c. search needs)
     mul-result-2
     add-result-2
     returns-4)

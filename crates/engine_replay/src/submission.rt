@@ -1,0 +1,189 @@
+// A submission of the list, and what the engine answers to it.
+ghost use Prim.Native.Nat.{_<_};
+ghost use lib.ListN.{length};
+ghost use mathlib.Core.Path.{_≡_};
+use crate::answers::Answers;
+use crate::digest;
+use crate::faults;
+use crate::line::count_at;
+use crate::line::float_at;
+use crate::line::word_at;
+use crate::opening::Opening;
+use crate::opening::some;
+use crate::sound;
+use crate::sound::Heard;
+use kistovab::calls::kistovab_submit;
+use kistovab::sizes::kistovab_coarse_length;
+use kistovab::sizes::kistovab_coarse_squares_length;
+use kistovab::sizes::kistovab_fine_length;
+use kistovab::sizes::kistovab_fine_squares_length;
+use kistovab::sizes::kistovab_work32_length;
+use kistovab::sizes::kistovab_work64_length;
+
+// What makes a window of at most 120 frames and 5 bands, and what comes with it. `fault` and `at`
+// say what is wrong with it, see faults.rt.
+pub struct Submission {
+    pub begin: f64,
+    pub frames: usize,
+    pub heard: Heard,
+    pub energy: f64,
+    pub loud: usize,
+    pub clock: f64,
+    pub fault: u64,
+    pub at: usize,
+}
+
+pub fn submission_of(line: &[u8]) -> Submission
+    requires { ⌜ length (now line) ≡ 255 ⌝ }
+{
+    let heard = Heard {
+        from: count_at(line, 3),
+        since: count_at(line, 4),
+        until: count_at(line, 5),
+        noise: word_at(line, 6),
+    };
+    Submission {
+        begin: float_at(line, 1),
+        frames: count_at(line, 2),
+        heard,
+        energy: float_at(line, 7),
+        loud: count_at(line, 8),
+        clock: float_at(line, 9),
+        fault: word_at(line, 10),
+        at: count_at(line, 11),
+    }
+}
+
+// Makes the window and submits it.
+pub fn answers_to(
+    o: Opening,
+    s: Submission,
+    state: &mut [u64],
+    fine: &[f32],
+    coarse: &[f32],
+    fine_squares: &[f64],
+    coarse_squares: &[f64],
+) -> Answers
+    requires { ⌜ 0 < o .period ⌝ }
+{
+    let mut times = [0.0f64; 120];
+    let mut energies = [0.0f64; 120];
+    let mut values = [0.0f32; 600];
+    let heard = s.heard;
+    sound::fill_times(&mut times, s.begin, o.hop);
+    faults::spoil_times(&mut times, s.fault, s.at, o.hop);
+    sound::fill_energies(&mut energies, s.energy, s.loud);
+    sound::fill_window(&mut values, o.seed, o.period, heard, some(s.frames));
+    faults::spoil_values(&mut values, s.fault, s.at);
+    let bands = faults::made_bands(s.fault, o.bands);
+    let size = kistovab_fine_length(s.frames, bands);
+    submit_over(
+        o,
+        s,
+        bands,
+        faults::part(&times, s.frames),
+        faults::part(&energies, faults::lent(s.fault, 7, s.frames, s.frames)),
+        faults::narrow_part(&values, faults::lent(s.fault, 8, size, size)),
+        state,
+        fine,
+        coarse,
+        fine_squares,
+        coarse_squares,
+    )
+}
+
+// Submits a window, with as much of the index as is to be lent.
+fn submit_over(
+    o: Opening,
+    s: Submission,
+    bands: usize,
+    times: &[f64],
+    energies: &[f64],
+    values: &[f32],
+    state: &mut [u64],
+    fine: &[f32],
+    coarse: &[f32],
+    fine_squares: &[f64],
+    coarse_squares: &[f64],
+) -> Answers {
+    let f = faults::lent(
+        s.fault,
+        1,
+        kistovab_fine_length(o.frames, o.bands),
+        fine.len(),
+    );
+    let c = faults::lent(
+        s.fault,
+        2,
+        kistovab_coarse_length(o.frames, o.bands),
+        coarse.len(),
+    );
+    let fs = faults::lent(
+        s.fault,
+        3,
+        kistovab_fine_squares_length(o.frames, o.bands),
+        fine_squares.len(),
+    );
+    let cs = faults::lent(
+        s.fault,
+        4,
+        kistovab_coarse_squares_length(o.frames, o.bands),
+        coarse_squares.len(),
+    );
+    submit_within(
+        o,
+        s,
+        bands,
+        times,
+        energies,
+        values,
+        state,
+        faults::narrow_part(fine, f),
+        faults::narrow_part(coarse, c),
+        faults::part(fine_squares, fs),
+        faults::part(coarse_squares, cs),
+    )
+}
+
+// The same, with the working buffers: as long as they need be, or one shorter.
+fn submit_within(
+    o: Opening,
+    s: Submission,
+    bands: usize,
+    times: &[f64],
+    energies: &[f64],
+    values: &[f32],
+    state: &mut [u64],
+    fine: &[f32],
+    coarse: &[f32],
+    fine_squares: &[f64],
+    coarse_squares: &[f64],
+) -> Answers {
+    let mut work32 = [0.0f32; 1200];
+    let mut work64 = [0.0f64; 2215];
+    let mut snapshot = [0u64; 77];
+    let narrow = kistovab_work32_length(s.frames, bands);
+    let wide = kistovab_work64_length(s.frames, bands, o.frames);
+    let n = faults::least(faults::lent(s.fault, 5, narrow, narrow), 1200);
+    let w = faults::least(faults::lent(s.fault, 6, wide, wide), 2215);
+    let answer = kistovab_submit(
+        state,
+        fine,
+        coarse,
+        fine_squares,
+        coarse_squares,
+        faults::said_bands(s.fault, bands),
+        times,
+        energies,
+        values,
+        s.clock,
+        &mut work32[..n],
+        &mut work64[..w],
+        &mut snapshot,
+    );
+    Answers {
+        answer: answer as u64,
+        state: digest::with_words(0, state),
+        shown: digest::with_words(0, &snapshot),
+    }
+}
