@@ -164,8 +164,7 @@ impl Replay {
 
     fn open(&mut self, head: &Head) -> Option<Theirs> {
         let opening = opening(head);
-        let lent = lent_index(head, head.fault);
-        let refusal = reading::opening_refusal(&opening, lent);
+        let refusal = reading::opening_refusal(&opening, ROOM);
         let opened = match refusal {
             Some(code) => {
                 self.counts.note_refused_opening(code);
@@ -215,7 +214,7 @@ impl Replay {
         let handed = Handed {
             window: &window,
             clock: step.clock,
-            index: lent_index(head, step.fault),
+            index: lent_index(head, step),
             work,
         };
         let seen = theirs.submit(&handed);
@@ -321,9 +320,9 @@ fn window(head: &Head, step: &Step) -> Window {
 }
 
 /// The program lends its arrays whole, or one of them one short of what the reference needs.
-fn lent_index(head: &Head, fault: usize) -> [usize; 4] {
+fn lent_index(head: &Head, step: &Step) -> [usize; 4] {
     let mut lent = ROOM;
-    if let Some(part) = fault.checked_sub(1).filter(|&part| part < 4) {
+    if let Some(part) = step.fault.checked_sub(1).filter(|&part| part < 4) {
         lent[part] = index_lengths(head.frames, head.bands)[part] - 1;
     }
     lent
