@@ -250,7 +250,10 @@ impl Replay {
             whole &= count > 0;
             reached += &format!("  {bands} bands {count:>21}{}\n", missing(count > 0));
         }
-        for (name, count) in ["locked at once", "locked by a chain"].iter().zip(self.locks) {
+        for (name, count) in ["locked at once", "locked by a chain"]
+            .iter()
+            .zip(self.locks)
+        {
             whole &= count > 0;
             reached += &format!("  {name:<24} {count:>4}{}\n", missing(count > 0));
         }
@@ -285,7 +288,13 @@ fn opening(head: &Head) -> Opening {
         times: sound::times(head.start, head.hop, head.frames),
         values: sound::reference(head),
     };
-    line::spoil(head.fault, head.at, head.hop, &mut reference.times, &mut reference.values);
+    line::spoil(
+        head.fault,
+        head.at,
+        head.hop,
+        &mut reference.times,
+        &mut reference.values,
+    );
     if head.fault == line::FEWER_VALUES {
         reference.values.pop();
     }
@@ -310,7 +319,13 @@ fn window(head: &Head, step: &Step) -> Window {
         energies: sound::energies(step),
         values: sound::window(head, step, made),
     };
-    line::spoil(step.fault, step.at, head.hop, &mut window.times, &mut window.values);
+    line::spoil(
+        step.fault,
+        step.at,
+        head.hop,
+        &mut window.times,
+        &mut window.values,
+    );
     match step.fault {
         line::FEWER_ENERGIES => window.energies.truncate(step.frames - 1),
         line::FEWER_VALUES => window.values.truncate(made * step.frames - 1),

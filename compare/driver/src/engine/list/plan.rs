@@ -273,7 +273,13 @@ fn at_hop_1000() -> (Head, Vec<Step>) {
     scene.done()
 }
 
-fn by_chance(number: u64, hop: f64, bands: usize, frames: usize, window: usize) -> (Head, Vec<Step>) {
+fn by_chance(
+    number: u64,
+    hop: f64,
+    bands: usize,
+    frames: usize,
+    window: usize,
+) -> (Head, Vec<Step>) {
     let mut random = Random::new(0x5e55_1045 + number);
     let window = window.max(fewest(hop)).min(MOST_FRAMES);
     let mut scene = Scene::new(100 + 7 * number, hop, bands, frames, window);
