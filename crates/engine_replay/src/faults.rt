@@ -1,5 +1,5 @@
 // What a line says is wrong with what is handed in, by number:
-//   1 to 4    an index buffer is lent one short: values, averages, the energies of both
+//   1 to 4    a window comes with an index buffer one short: values, averages, the energies of both
 //   5, 6      a working buffer is lent one short
 //   7, 8      one energy, one value too few
 //   9, 10     65 bands, no bands are said
@@ -81,4 +81,13 @@ pub fn narrow_part(list: &[f32], n: usize) -> &[f32] {
         return &list[..n];
     }
     list
+}
+
+// How much of an index buffer is lent that has to hold `needed`.
+pub fn wide_lent(list: &[f64], fault: u64, buffer: u64, needed: usize) -> &[f64] {
+    part(list, lent(fault, buffer, needed, list.len()))
+}
+
+pub fn narrow_lent(list: &[f32], fault: u64, buffer: u64, needed: usize) -> &[f32] {
+    narrow_part(list, lent(fault, buffer, needed, list.len()))
 }

@@ -10,18 +10,15 @@ use crate::line::float_at;
 use crate::line::word_at;
 use crate::sound;
 use kistovab::calls::kistovab_open;
-use kistovab::sizes::kistovab_coarse_length;
-use kistovab::sizes::kistovab_coarse_squares_length;
 use kistovab::sizes::kistovab_fine_length;
-use kistovab::sizes::kistovab_fine_squares_length;
 
 // The thresholds of energy are as a unit starts with them.
 const ACTIVE: f64 = -70.0;
 
 const AVERAGE: f64 = -62.0;
 
-// What makes a reference of at most 400 frames and 4 bands. `fault` and `at` say what is wrong with
-// it, see faults.rt.
+// What makes a reference of at most 400 frames and 1,600 values. `fault` and `at` say what is wrong
+// with it, see faults.rt. The index buffers are lent whole: some references need longer ones.
 pub struct Opening {
     pub seed: u64,
     pub hop: f64,
@@ -97,69 +94,8 @@ fn open(
 {
     let mut times = [0.0f64; 400];
     let mut values = [0.0f32; 1600];
-    sound::fill_times(&mut times, o.start, o.hop);
-    faults::spoil_times(&mut times, o.fault, o.at, o.hop);
-    sound::fill_reference(&mut values, o.seed, o.period, some(o.frames));
-    faults::spoil_values(&mut values, o.fault, o.at);
+    make_reference(o, &mut times, &mut values);
     let size = kistovab_fine_length(o.frames, o.bands);
-    open_over(
-        o,
-        faults::part(&times, o.frames),
-        faults::narrow_part(&values, faults::lent(o.fault, 8, size, size)),
-        state,
-        fine,
-        coarse,
-        fine_squares,
-        coarse_squares,
-    )
-}
-
-// Opens a reference, with as much of the first two index buffers as is to be lent.
-fn open_over(
-    o: Opening,
-    times: &[f64],
-    values: &[f32],
-    state: &mut [u64],
-    fine: &mut [f32],
-    coarse: &mut [f32],
-    fine_squares: &mut [f64],
-    coarse_squares: &mut [f64],
-) -> u32 {
-    let size = fine.len();
-    let averages = coarse.len();
-    let needed = kistovab_fine_length(o.frames, o.bands);
-    let averaged = kistovab_coarse_length(o.frames, o.bands);
-    let f = faults::least(faults::lent(o.fault, 1, needed, size), size);
-    let c = faults::least(faults::lent(o.fault, 2, averaged, averages), averages);
-    open_within(
-        o,
-        times,
-        values,
-        state,
-        &mut fine[..f],
-        &mut coarse[..c],
-        fine_squares,
-        coarse_squares,
-    )
-}
-
-// The same of the other two.
-fn open_within(
-    o: Opening,
-    times: &[f64],
-    values: &[f32],
-    state: &mut [u64],
-    fine: &mut [f32],
-    coarse: &mut [f32],
-    fine_squares: &mut [f64],
-    coarse_squares: &mut [f64],
-) -> u32 {
-    let size = fine_squares.len();
-    let averages = coarse_squares.len();
-    let needed = kistovab_fine_squares_length(o.frames, o.bands);
-    let averaged = kistovab_coarse_squares_length(o.frames, o.bands);
-    let f = faults::least(faults::lent(o.fault, 3, needed, size), size);
-    let c = faults::least(faults::lent(o.fault, 4, averaged, averages), averages);
     kistovab_open(
         o.readiness,
         o.tracking,
@@ -168,12 +104,21 @@ fn open_within(
         o.fraction,
         o.hop,
         faults::said_bands(o.fault, o.bands),
-        times,
-        values,
+        faults::part(&times, o.frames),
+        faults::narrow_part(&values, faults::lent(o.fault, 8, size, size)),
         fine,
         coarse,
-        &mut fine_squares[..f],
-        &mut coarse_squares[..c],
+        fine_squares,
+        coarse_squares,
         state,
     )
+}
+
+fn make_reference(o: Opening, times: &mut [f64], values: &mut [f32])
+    requires { ⌜ 0 < o .period ⌝ }
+{
+    sound::fill_times(times, o.start, o.hop);
+    faults::spoil_times(times, o.fault, o.at, o.hop);
+    sound::fill_reference(values, o.seed, o.period, some(o.frames));
+    faults::spoil_values(values, o.fault, o.at);
 }

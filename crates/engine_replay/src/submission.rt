@@ -54,7 +54,7 @@ pub fn submission_of(line: &[u8]) -> Submission
     }
 }
 
-// Makes the window and submits it.
+// Makes the window and submits it, with as much of the index as is to be lent.
 pub fn answers_to(
     o: Opening,
     s: Submission,
@@ -69,15 +69,10 @@ pub fn answers_to(
     let mut times = [0.0f64; 120];
     let mut energies = [0.0f64; 120];
     let mut values = [0.0f32; 600];
-    let heard = s.heard;
-    sound::fill_times(&mut times, s.begin, o.hop);
-    faults::spoil_times(&mut times, s.fault, s.at, o.hop);
-    sound::fill_energies(&mut energies, s.energy, s.loud);
-    sound::fill_window(&mut values, o.seed, o.period, heard, some(s.frames));
-    faults::spoil_values(&mut values, s.fault, s.at);
+    make_window(o, s, &mut times, &mut energies, &mut values);
     let bands = faults::made_bands(s.fault, o.bands);
     let size = kistovab_fine_length(s.frames, bands);
-    submit_over(
+    submit_within(
         o,
         s,
         bands,
@@ -85,67 +80,46 @@ pub fn answers_to(
         faults::part(&energies, faults::lent(s.fault, 7, s.frames, s.frames)),
         faults::narrow_part(&values, faults::lent(s.fault, 8, size, size)),
         state,
-        fine,
-        coarse,
-        fine_squares,
-        coarse_squares,
+        faults::narrow_lent(fine, s.fault, 1, kistovab_fine_length(o.frames, o.bands)),
+        faults::narrow_lent(
+            coarse,
+            s.fault,
+            2,
+            kistovab_coarse_length(o.frames, o.bands),
+        ),
+        faults::wide_lent(
+            fine_squares,
+            s.fault,
+            3,
+            kistovab_fine_squares_length(o.frames, o.bands),
+        ),
+        faults::wide_lent(
+            coarse_squares,
+            s.fault,
+            4,
+            kistovab_coarse_squares_length(o.frames, o.bands),
+        ),
     )
 }
 
-// Submits a window, with as much of the index as is to be lent.
-fn submit_over(
+fn make_window(
     o: Opening,
     s: Submission,
-    bands: usize,
-    times: &[f64],
-    energies: &[f64],
-    values: &[f32],
-    state: &mut [u64],
-    fine: &[f32],
-    coarse: &[f32],
-    fine_squares: &[f64],
-    coarse_squares: &[f64],
-) -> Answers {
-    let f = faults::lent(
-        s.fault,
-        1,
-        kistovab_fine_length(o.frames, o.bands),
-        fine.len(),
-    );
-    let c = faults::lent(
-        s.fault,
-        2,
-        kistovab_coarse_length(o.frames, o.bands),
-        coarse.len(),
-    );
-    let fs = faults::lent(
-        s.fault,
-        3,
-        kistovab_fine_squares_length(o.frames, o.bands),
-        fine_squares.len(),
-    );
-    let cs = faults::lent(
-        s.fault,
-        4,
-        kistovab_coarse_squares_length(o.frames, o.bands),
-        coarse_squares.len(),
-    );
-    submit_within(
-        o,
-        s,
-        bands,
-        times,
-        energies,
-        values,
-        state,
-        faults::narrow_part(fine, f),
-        faults::narrow_part(coarse, c),
-        faults::part(fine_squares, fs),
-        faults::part(coarse_squares, cs),
-    )
+    times: &mut [f64],
+    energies: &mut [f64],
+    values: &mut [f32],
+)
+    requires { ⌜ 0 < o .period ⌝ }
+{
+    let heard = s.heard;
+    sound::fill_times(times, s.begin, o.hop);
+    faults::spoil_times(times, s.fault, s.at, o.hop);
+    sound::fill_energies(energies, s.energy, s.loud);
+    sound::fill_window(values, o.seed, o.period, heard, some(s.frames));
+    faults::spoil_values(values, s.fault, s.at);
 }
 
-// The same, with the working buffers: as long as they need be, or one shorter.
+// Submits a window, with working buffers as long as they need be or one shorter.
 fn submit_within(
     o: Opening,
     s: Submission,

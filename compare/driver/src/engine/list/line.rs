@@ -7,7 +7,8 @@ pub type Line = [u64; 15];
 /// Where a line has the state's digest.
 pub const STATE: usize = 13;
 
-// ---- faults, as faults.rt of engine_replay numbers them; 1 to 6 are buffers lent one short
+// ---- faults, as faults.rt of engine_replay numbers them; 1 to 6 are buffers lent one short with a
+// window
 
 pub const FEWER_ENERGIES: usize = 7;
 pub const FEWER_VALUES: usize = 8;

@@ -164,8 +164,7 @@ impl Replay {
 
     fn open(&mut self, head: &Head) -> Option<Theirs> {
         let opening = opening(head);
-        let lent = lent_index(head, head.fault);
-        let refusal = reading::opening_refusal(&opening, lent);
+        let refusal = reading::opening_refusal(&opening, ROOM);
         let opened = match refusal {
             Some(code) => {
                 self.counts.note_refused_opening(code);
@@ -215,7 +214,7 @@ impl Replay {
         let handed = Handed {
             window: &window,
             clock: step.clock,
-            index: lent_index(head, step.fault),
+            index: lent_index(head, step),
             work,
         };
         let seen = theirs.submit(&handed);
@@ -251,7 +250,10 @@ impl Replay {
             whole &= count > 0;
             reached += &format!("  {bands} bands {count:>21}{}\n", missing(count > 0));
         }
-        for (name, count) in ["locked at once", "locked by a chain"].iter().zip(self.locks) {
+        for (name, count) in ["locked at once", "locked by a chain"]
+            .iter()
+            .zip(self.locks)
+        {
             whole &= count > 0;
             reached += &format!("  {name:<24} {count:>4}{}\n", missing(count > 0));
         }
@@ -286,7 +288,13 @@ fn opening(head: &Head) -> Opening {
         times: sound::times(head.start, head.hop, head.frames),
         values: sound::reference(head),
     };
-    line::spoil(head.fault, head.at, head.hop, &mut reference.times, &mut reference.values);
+    line::spoil(
+        head.fault,
+        head.at,
+        head.hop,
+        &mut reference.times,
+        &mut reference.values,
+    );
     if head.fault == line::FEWER_VALUES {
         reference.values.pop();
     }
@@ -311,7 +319,13 @@ fn window(head: &Head, step: &Step) -> Window {
         energies: sound::energies(step),
         values: sound::window(head, step, made),
     };
-    line::spoil(step.fault, step.at, head.hop, &mut window.times, &mut window.values);
+    line::spoil(
+        step.fault,
+        step.at,
+        head.hop,
+        &mut window.times,
+        &mut window.values,
+    );
     match step.fault {
         line::FEWER_ENERGIES => window.energies.truncate(step.frames - 1),
         line::FEWER_VALUES => window.values.truncate(made * step.frames - 1),
@@ -321,9 +335,9 @@ fn window(head: &Head, step: &Step) -> Window {
 }
 
 /// The program lends its arrays whole, or one of them one short of what the reference needs.
-fn lent_index(head: &Head, fault: usize) -> [usize; 4] {
+fn lent_index(head: &Head, step: &Step) -> [usize; 4] {
     let mut lent = ROOM;
-    if let Some(part) = fault.checked_sub(1).filter(|&part| part < 4) {
+    if let Some(part) = step.fault.checked_sub(1).filter(|&part| part < 4) {
         lent[part] = index_lengths(head.frames, head.bands)[part] - 1;
     }
     lent

@@ -133,7 +133,7 @@ impl Scene {
     }
 }
 
-/// Refused 1 to 6, each of the four buffers short.
+/// Refused 1 to 6.
 fn refused_openings() -> Vec<(Head, Vec<Step>)> {
     let head = Scene::new(11, 100.0, 2, 60, 30).head;
     let with = |change: &dyn Fn(&mut Head)| {
@@ -147,8 +147,9 @@ fn refused_openings() -> Vec<(Head, Vec<Step>)> {
         with(&|head| head.fault = BANDS_65),
         with(&|head| head.fault = FEWER_VALUES),
         with(&|head| head.start = 2e12),
-        with(&|head| head.fault = 1),
-        with(&|head| head.fault = 4),
+        // Both energies are one short, then the averages' alone.
+        with(&|head| (head.bands, head.frames) = (5, 320)),
+        with(&|head| (head.bands, head.frames) = (7, 228)),
     ]
 }
 
@@ -272,7 +273,13 @@ fn at_hop_1000() -> (Head, Vec<Step>) {
     scene.done()
 }
 
-fn by_chance(number: u64, hop: f64, bands: usize, frames: usize, window: usize) -> (Head, Vec<Step>) {
+fn by_chance(
+    number: u64,
+    hop: f64,
+    bands: usize,
+    frames: usize,
+    window: usize,
+) -> (Head, Vec<Step>) {
     let mut random = Random::new(0x5e55_1045 + number);
     let window = window.max(fewest(hop)).min(MOST_FRAMES);
     let mut scene = Scene::new(100 + 7 * number, hop, bands, frames, window);
