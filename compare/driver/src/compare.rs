@@ -28,8 +28,23 @@ impl Effort {
         }
     }
 
-    pub fn threads(self) -> usize {
-        self.threads
+    /// Does the same for every number below `count`, in whatever order the threads come to it.
+    pub fn each(self, name: &str, count: u64, act: impl Fn(u64) + Sync) {
+        let progress = Progress::new(name, count);
+        let next = AtomicU64::new(0);
+        let work = || loop {
+            let number = next.fetch_add(1, Relaxed);
+            if number >= count {
+                return;
+            }
+            act(number);
+            progress.advance(1);
+        };
+        thread::scope(|scope| {
+            for _ in 0..self.threads {
+                scope.spawn(work);
+            }
+        });
     }
 
     pub fn pick<T>(self, quick: T, full: T) -> T {

@@ -8,11 +8,9 @@ use super::reading;
 use super::words::{self, place, MOST_CANDIDATES};
 use crate::compare::Effort;
 use crate::family::pattern;
-use crate::progress::Progress;
 use crate::random::Random;
 use sonalign::running::{Kept, Rows};
 use std::sync::atomic::{AtomicU64, Ordering::Relaxed};
-use std::thread;
 
 const PRINTED: u64 = 20;
 
@@ -26,25 +24,12 @@ struct Tally {
 }
 
 pub fn check(effort: Effort) -> bool {
-    let least = effort.pick(4_000, 100_000);
     let tally = Tally::default();
-    let progress = Progress::new("altered index", least);
-    let next = AtomicU64::new(0);
-    let work = || {
-        while tally.submissions.load(Relaxed) < least {
-            let number = next.fetch_add(1, Relaxed);
-            let before = tally.submissions.load(Relaxed);
-            if let Err(what) = run(number, &tally) {
-                if tally.differences.fetch_add(1, Relaxed) < PRINTED {
-                    println!("altered index {number}: {what}");
-                }
+    effort.each("altered index", effort.pick(250, 6_000), |number| {
+        if let Err(what) = run(number, &tally) {
+            if tally.differences.fetch_add(1, Relaxed) < PRINTED {
+                println!("altered index {number}: {what}");
             }
-            progress.advance(tally.submissions.load(Relaxed).saturating_sub(before));
-        }
-    };
-    thread::scope(|scope| {
-        for _ in 0..effort.threads() {
-            scope.spawn(work);
         }
     });
     let read = |count: &AtomicU64| count.load(Relaxed);

@@ -7,9 +7,7 @@ use super::session::Session;
 use super::theirs::Seen;
 use super::{altered, generate, made, refusals};
 use crate::compare::Effort;
-use crate::progress::Progress;
 use std::sync::atomic::{AtomicU64, Ordering::Relaxed};
-use std::thread;
 
 const PRINTED: u64 = 20;
 
@@ -38,20 +36,8 @@ fn sessions(effort: Effort) -> bool {
         submissions: AtomicU64::new(0),
         differences: AtomicU64::new(0),
     };
-    let progress = Progress::new("engine", count);
-    let next = AtomicU64::new(0);
-    let work = || loop {
-        let number = next.fetch_add(1, Relaxed);
-        if number >= count {
-            return;
-        }
+    effort.each("engine", count, |number| {
         compare(number, &generate::session(number), &tally);
-        progress.advance(1);
-    };
-    thread::scope(|scope| {
-        for _ in 0..effort.threads() {
-            scope.spawn(work);
-        }
     });
     let (submissions, differences) = (
         tally.submissions.into_inner(),

@@ -15,7 +15,6 @@ use sonalign::types::{
     CandidateDiagnostics, Diagnostics, Estimate, Snapshot, SpectralDiagnostics, State,
 };
 use std::sync::atomic::{AtomicU64, Ordering::Relaxed};
-use std::thread;
 
 const PRINTED: u64 = 20;
 
@@ -41,21 +40,11 @@ struct Tally {
 pub fn check(effort: Effort) -> bool {
     let count = effort.pick(QUICK_STATES, 60_000);
     let tally = Tally::default();
-    let next = AtomicU64::new(0);
-    let work = || loop {
-        let number = next.fetch_add(1, Relaxed);
-        if number >= count {
-            return;
-        }
+    effort.each("made states", count, |number| {
         if let Err(what) = run(running::open, number, &tally) {
             if tally.differences.fetch_add(1, Relaxed) < PRINTED {
                 println!("made state {number}: {what}");
             }
-        }
-    };
-    thread::scope(|scope| {
-        for _ in 0..effort.threads() {
-            scope.spawn(work);
         }
     });
     told(&tally)

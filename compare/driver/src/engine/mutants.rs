@@ -4,14 +4,11 @@
 use super::both::{Both, Opened};
 use super::{generate, made};
 use crate::compare::Effort;
-use crate::progress::Progress;
 use mutants::{Mutant, MUTANTS};
 use sonalign::running::{self, Open};
 use std::fmt::Write;
 use std::panic::{self, AssertUnwindSafe};
-use std::sync::atomic::{AtomicU64, AtomicUsize, Ordering::Relaxed};
 use std::sync::Mutex;
-use std::thread;
 
 const HEAD: &str = "\
 | place changed | file | told by | difference |
@@ -28,23 +25,12 @@ pub fn table(effort: Effort, words: &str) -> (String, bool) {
     panic::set_hook(Box::new(|_| {}));
     let chosen = |mutant: &&Mutant| mutant.name.contains(words);
     let mutants: Vec<&Mutant> = MUTANTS.iter().filter(chosen).collect();
-    let next = AtomicUsize::new(0);
     let told: Vec<Mutex<Told>> = mutants.iter().map(|_| Mutex::new(None)).collect();
-    let progress = Progress::new("mutants", mutants.len() as u64);
-    let work = || loop {
-        let number = next.fetch_add(1, Relaxed);
-        let Some(mutant) = mutants.get(number) else {
-            return;
-        };
-        let found = by_sessions(mutant.open).or_else(|| by_made(mutant.open));
-        if let Ok(mut told) = told[number].lock() {
+    effort.each("mutants", mutants.len() as u64, |number| {
+        let open = mutants[number as usize].open;
+        let found = by_sessions(open).or_else(|| by_made(open));
+        if let Ok(mut told) = told[number as usize].lock() {
             *told = found;
-        }
-        progress.advance(1);
-    };
-    thread::scope(|scope| {
-        for _ in 0..effort.threads() {
-            scope.spawn(work);
         }
     });
     let told: Vec<Told> = told
@@ -56,7 +42,7 @@ pub fn table(effort: Effort, words: &str) -> (String, bool) {
 
 fn shown(mutants: &[&Mutant], told: &[Told]) -> (String, bool) {
     let mut text = String::from(HEAD);
-    let (caught, all) = (AtomicU64::new(0), AtomicU64::new(0));
+    let (mut caught, mut as_listed) = (0, 0);
     for (mutant, told) in mutants.iter().zip(told) {
         let Mutant {
             name, file, same, ..
@@ -67,14 +53,13 @@ fn shown(mutants: &[&Mutant], told: &[Told]) -> (String, bool) {
             (Some((place, _)), Some(_)) => (place.as_str(), "TOLD, THOUGH SAID TO BE THE SAME"),
             (None, None) => ("NOT CAUGHT", ""),
         };
-        caught.fetch_add(u64::from(told.is_some()), Relaxed);
-        all.fetch_add(u64::from(told.is_some() == same.is_none()), Relaxed);
+        caught += usize::from(told.is_some());
+        as_listed += usize::from(told.is_some() == same.is_none());
         let _ = writeln!(text, "| {name} | {file} | {place} | {what} |");
     }
-    let (caught, all) = (caught.into_inner(), all.into_inner());
     let count = mutants.len();
-    let _ = writeln!(text, "\n{caught} of {count} told, {} as listed", all);
-    (text, all == count as u64)
+    let _ = writeln!(text, "\n{caught} of {count} told, {as_listed} as listed");
+    (text, as_listed == count)
 }
 
 fn by_sessions(open: Open) -> Told {

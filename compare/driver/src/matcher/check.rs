@@ -3,10 +3,8 @@
 use super::case::{Candidate, Case, Frames};
 use super::{cases, ours, theirs};
 use crate::compare::Effort;
-use crate::progress::Progress;
 use crate::value::{same, Value};
 use std::sync::atomic::{AtomicU64, Ordering::Relaxed};
-use std::thread;
 
 const PRINTED: u64 = 20;
 
@@ -54,8 +52,12 @@ impl Tally {
 pub fn check(effort: Effort) -> bool {
     let tally = Tally::default();
     let (cases, largest) = effort.pick((6_000, 1), (150_000, 12));
-    run(effort, cases, &tally, cases::small);
-    run(effort, largest, &tally, cases::largest);
+    effort.each("matcher", cases, |number| {
+        compare(number, &cases::small(number), &tally);
+    });
+    effort.each("matcher", largest, |number| {
+        compare(number, &cases::largest(number), &tally);
+    });
     let read = |count: &AtomicU64| count.load(Relaxed);
     let differences = read(&tally.differences);
     println!(
@@ -77,24 +79,6 @@ pub fn check(effort: Effort) -> bool {
         read(&tally.local_found),
     );
     differences == 0
-}
-
-fn run(effort: Effort, count: u64, tally: &Tally, make: impl Fn(u64) -> Case + Sync) {
-    let progress = Progress::new("matcher", count);
-    let next = AtomicU64::new(0);
-    let work = || loop {
-        let number = next.fetch_add(1, Relaxed);
-        if number >= count {
-            return;
-        }
-        compare(number, &make(number), tally);
-        progress.advance(1);
-    };
-    thread::scope(|scope| {
-        for _ in 0..effort.threads() {
-            scope.spawn(work);
-        }
-    });
 }
 
 fn compare(number: u64, case: &Case, tally: &Tally) {
