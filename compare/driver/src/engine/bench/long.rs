@@ -22,8 +22,9 @@ const STEP: f64 = 100.0;
 const HEARD: usize = 200;
 
 pub struct Long {
-    pub first: Duration,
-    pub last: Duration,
+    /// What each of the first and of the last took.
+    pub first: Vec<Duration>,
+    pub last: Vec<Duration>,
     /// Kilobytes.
     pub before: u64,
     pub after: u64,
@@ -59,8 +60,8 @@ pub fn measured() -> Long {
     let (mut work32, mut work64) = (vec![0.0; narrow], vec![0.0; wide]);
     let mut snapshot = vec![0; words::SNAPSHOT];
     let mut long = Long {
-        first: Duration::ZERO,
-        last: Duration::ZERO,
+        first: Vec::with_capacity(LOOKED_AT),
+        last: Vec::with_capacity(LOOKED_AT),
         before: 0,
         after: 0,
         computed: 0,
@@ -84,10 +85,10 @@ pub fn measured() -> Long {
         );
         let taken = worked() - begun;
         if number < LOOKED_AT {
-            long.first += taken;
+            long.first.push(taken);
         }
         if number >= SUBMISSIONS - LOOKED_AT {
-            long.last += taken;
+            long.last.push(taken);
         }
         long.computed += usize::from(code == ours::COMPUTED);
         long.locked += usize::from(snapshot[1] == 4);
