@@ -6,7 +6,6 @@ ghost use Rattle.matcher_bands.specs.Rows.{allTo};
 ghost use Rattle.matcher_bands.specs.Timeline.{accepts, near, onTime, regular, validValue, validValues};
 use numbers::float::abs;
 use numbers::float::is_finite;
-use numbers::float::is_finite_f32;
 use numbers::float::real;
 
 // Whether a is off b by less than hop * 0.05.
@@ -64,19 +63,19 @@ pub fn accepts_timeline(bands: usize, hop: f64, window_bands: usize, times: &[f6
 fn is_valid(v: f32) -> bool
     ensures { λ r. ⌜ r ≡ validValue v ⌝ }
 {
-    is_finite_f32(v) & (v >= 0.0)
+    (v >= 0.0) & (v < 1.0 / 0.0)
 }
 
-// Whether all values are finite and not below zero.
+// Whether all values are finite and not below zero. It goes on after one that is not, so that the
+// loop has no branch and becomes vector code.
 pub fn are_valid(values: &[f32]) -> bool
     ensures { λ r. ⌜ r ≡ validValues (now (values .entry)) ⌝ }
 {
+    let mut all = true;
     let mut i = 0usize;
     while i < values.len() {
-        if !is_valid(values[i]) {
-            return false;
-        }
+        all = all & is_valid(values[i]);
         i += 1;
     }
-    true
+    all
 }
