@@ -3,14 +3,11 @@
 ghost use mathlib.Core.Path.{_≡_};
 ghost use Rattle.engine_layout.specs.Layout.{snapshotWords, stateWords};
 ghost use Rattle.kistovab.specs.Sizes.{coarseLength, coarseSquaresLength, fineLength, fineSquaresLength, work32Length, work64Length};
+use engine_spec::limits::BANDS_MOST;
+use engine_spec::limits::FRAMES_MOST;
+use engine_spec::limits::WINDOW_MOST;
 use engine_words::snapshots::SNAPSHOT_WORDS;
 use engine_words::states::STATE_WORDS;
-
-const FRAMES_MOST: usize = 65535;
-
-const BANDS_MOST: usize = 64;
-
-const WINDOW_MOST: usize = 1024;
 
 #[no_mangle]
 pub extern "C" fn kistovab_state_words() -> usize
