@@ -6,8 +6,8 @@ use native.Mathlib.Omega.{arith}
 use mathlib.Core.Bool.{Bool, true, false, not, _&&_}
 use borrow.Author.Tests.{ltb-true, leb-true, eqb-true, not-true, not-false}
 use lib.Ieee.{Float}
-use Rattle.matcher_bands.specs.Centring.{wideHop}
-use Rattle.matcher.specs.declared.index.Reference.{Reference}
+use Rattle.matcher_spec.specs.Centring.{wideHop}
+use Rattle.matcher_spec.specs.declared.types.Reference.{Reference}
 use Rattle.compare_exports.specs.MatcherCalls.{fitsLimits, fitsBands, fitsFillLengths, fitsWindow, fitsLocalLengths}
 
 -- How many values, and how many energies, bands of at most m values have.

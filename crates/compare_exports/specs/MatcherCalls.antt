@@ -5,12 +5,12 @@ use mathlib.Core.List.{List, [], _∷_, _++_}
 use lib.Dec.{eqb, leb, ltb}
 use lib.ListN.{drop, length}
 use lib.Ieee.{Float, le}
-use Rattle.numbers.specs.Arithmetic.{one}
-use Rattle.matcher_picks.specs.Candidates.{resultOf}
-use Rattle.matcher.specs.Index.{acceptsReference, filled, lentBands, lentMatcher, matcherOf}
-use Rattle.matcher.specs.Search.{Window, localSearch, recentMs, wholeSearch}
-use Rattle.matcher_picks.specs.declared.candidates.Candidate.{Candidate}
-use Rattle.matcher.specs.declared.index.Reference.{Reference}
+use Rattle.numbers_spec.specs.Arithmetic.{one}
+use Rattle.matcher_spec.specs.Candidates.{resultOf}
+use Rattle.matcher_spec.specs.Index.{acceptsReference, filled, lentBands, lentMatcher, matcherOf}
+use Rattle.matcher_spec.specs.Search.{Window, localSearch, recentMs, wholeSearch}
+use Rattle.matcher_spec.specs.declared.types.Candidate.{Candidate}
+use Rattle.matcher_spec.specs.declared.types.Reference.{Reference}
 
 -- The answer where a slice is too short or a number is out of its range: nothing is written then.
 abbrev pub unfit : ℕ

@@ -5,12 +5,12 @@ ghost use lib.ListN.{drop, length};
 ghost use mathlib.Core.List.{_++_};
 ghost use mathlib.Core.Path.{_≡_};
 ghost use Rattle.compare_exports.specs.MatcherCalls.{buffers, counted, fillAnswer, filledBuffers, fitsBands, fitsFillLengths, fitsLimits, fitsLocal, fitsLocalLengths, fitsWhole, fitsWindow, foundIn, foundNear, numbersOf, referenceOf, written};
-ghost use Rattle.matcher.specs.Search.{windowOf};
-use matcher::index::Reference;
+ghost use Rattle.matcher_spec.specs.Search.{windowOf};
 use matcher::index::fill_index;
 use matcher::search::local_search;
 use matcher::search::whole_search;
-use matcher_picks::candidates::MatchResult;
+use matcher_spec::types::MatchResult;
+use matcher_spec::types::Reference;
 
 // The answer where a slice is too short or a number is out of its range.
 const UNFIT: usize = 255;

@@ -1,11 +1,11 @@
 // The number functions, for Rust to call.
 ghost use lib.Ieee.Scale.{finite};
 ghost use mathlib.Core.Path.{_≡_};
-ghost use Rattle.numbers.specs.Exponential.{expOf, tenTo};
-ghost use Rattle.numbers.specs.Logarithm.{log10Of, log1pOf, logOf};
-ghost use Rattle.numbers.specs.Narrow.{nearestF32};
-ghost use Rattle.numbers.specs.Root.{rootOf};
-ghost use Rattle.numbers.specs.Whole.{wholeAbove, wholeBelow, wholeNearest};
+ghost use Rattle.numbers_spec.specs.Exponential.{expOf, tenTo};
+ghost use Rattle.numbers_spec.specs.Logarithm.{log10Of, log1pOf, logOf};
+ghost use Rattle.numbers_spec.specs.Narrow.{nearestF32};
+ghost use Rattle.numbers_spec.specs.Root.{rootOf};
+ghost use Rattle.numbers_spec.specs.Whole.{wholeAbove, wholeBelow, wholeNearest};
 
 #[no_mangle]
 pub extern "C" fn numbers_widen(x: f32) -> f64

@@ -3,10 +3,9 @@ ghost use lib.Dec.{eqb};
 ghost use lib.ListN.{length};
 ghost use mathlib.Core.Bool.{cond};
 ghost use mathlib.Core.Path.{_≡_};
-ghost use Rattle.number_rows.specs.Logs.{logsOf};
-ghost use Rattle.number_rows.specs.Rows.{rootsOf};
-use number_rows::ln_1p_row::ln_1p_row;
-use number_rows::root_row::root_row;
+ghost use Rattle.numbers_spec.specs.Rows.{logsOf, rootsOf};
+use numbers_rows::ln_1p_row::ln_1p_row;
+use numbers_rows::root_row::root_row;
 
 // Each answers whether the row to be filled is as long as that of numbers; if not, nothing is written.
 #[no_mangle]

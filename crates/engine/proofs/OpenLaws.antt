@@ -8,12 +8,12 @@ use lib.Dec.{T, ltb, leb, eqb, ltb→lt, leb→le, eqb→eq}
 use lib.ListN.{length, getD}
 use lib.Ieee.{Float, nan, lt, le}
 use lib.Ieee.Scale.{finite}
-use Rattle.numbers.specs.Arithmetic.{zero⁺}
-use Rattle.matcher_bands.specs.Rows.{allTo}
-use Rattle.matcher_bands.specs.Centring.{wideHop}
-use Rattle.matcher_bands.specs.Timeline.{regular, onTime, validValues}
-use Rattle.matcher_bands.specs.Energy.{reduction}
-use Rattle.matcher.specs.Index.{acceptsReference, filled}
+use Rattle.numbers_spec.specs.Arithmetic.{zero⁺}
+use Rattle.numbers_spec.specs.Rows.{allTo}
+use Rattle.matcher_spec.specs.Centring.{wideHop}
+use Rattle.matcher_spec.specs.Timeline.{regular, onTime, validValues}
+use Rattle.matcher_spec.specs.Energy.{reduction}
+use Rattle.matcher_spec.specs.Index.{acceptsReference, filled}
 use Rattle.engine_spec.specs.Limits.{hopLeast, hopMost, framesMost, bandsMost}
 use Rattle.engine_spec.specs.Windows.{Soundtrack, Index}
 use Rattle.engine_spec.specs.Refusals.{numberOf, refuses, every, nearOrNotFinite, validConfiguration, hopInRange, countsInRange, indexFits, openingRefusal}

@@ -7,8 +7,8 @@ use lib.Dec.{T, ltb, leb, eqb, ltb→lt, leb→le, eqb→eq}
 use lib.ListN.{length}
 use lib.Ieee.{le}
 use lib.Ieee.Scale.{finite}
-use Rattle.matcher_bands.specs.Timeline.{validValues}
-use Rattle.matcher_bands.specs.Energy.{reduction}
+use Rattle.matcher_spec.specs.Timeline.{validValues}
+use Rattle.matcher_spec.specs.Energy.{reduction}
 use Rattle.engine_spec.specs.Limits.{hopLeast, hopMost, framesMost, windowMost, bandsMost}
 use Rattle.engine_spec.specs.Refusals.{Submission, numberOf, refuses, near, every, validEnergy, validConfiguration, hopInRange, countsInRange, bothOrNeither, indexFits, validSettings, validLock, validMilestones, validLast, validEngine, validWindow, workFits, handedRefusal, submissionRefusal}
 use Rattle.engine_spec.specs.declared.types.Settings.{Settings}

@@ -2,7 +2,7 @@
 ghost use lib.ListN.{length};
 ghost use mathlib.Core.Bool.{true};
 ghost use mathlib.Core.Path.{_≡_};
-ghost use Rattle.matcher_laws.specs.Words.{Every, F32};
+ghost use Rattle.matcher_spec.specs.Words.{Every, F32};
 ghost use Rattle.engine_spec.specs.Refusals.{refuses};
 ghost use Rattle.engine_spec.specs.Submitting.{answeredFrom, submit};
 ghost use Rattle.engine_spec.specs.Lent.{handed, lent, window};

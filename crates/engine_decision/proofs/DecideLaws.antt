@@ -9,10 +9,10 @@ use mathlib.Core.Bool.{Bool, true, false, cond, not, false≢true}
 use mathlib.Core.Path.{_≡_, refl, sym, ap, _∙_}
 use borrow.Author.Tests.{eqb-false}
 use lib.Dec.{eqb}
-use Rattle.matcher_picks.specs.Candidates.{marginOf}
-use Rattle.matcher_picks.specs.declared.candidates.Candidate.{Candidate}
+use Rattle.matcher_spec.specs.Candidates.{marginOf}
+use Rattle.matcher_spec.specs.declared.types.Candidate.{Candidate}
 use Rattle.engine_spec.specs.Thresholds.{passingMargin}
-use Rattle.matcher.specs.Index.{Matcher}
+use Rattle.matcher_spec.specs.Index.{Matcher}
 use Rattle.engine_spec.specs.Windows.{Window, evidence, endpointOf}
 use Rattle.engine_spec.specs.Readiness.{readiness, isNone}
 use Rattle.engine_spec.specs.Locking as locking

@@ -1,5 +1,5 @@
 -- The structs of the code as the records that the definitions take. Definitions only.
-use Rattle.matcher_picks.specs.Candidates.{listed}
+use Rattle.matcher_spec.specs.Candidates.{listed}
 use Rattle.engine_spec.specs.Publishing as publishing
 use Rattle.engine_lock.specs.Views.{reachedIn}
 use Rattle.engine_decision.specs.declared.kinds.Verdict.{Verdict}

@@ -4,7 +4,7 @@ use engine_spec::types::Lock;
 use engine_spec::types::Maybe;
 use engine_spec::types::State;
 use engine_spec::types::WithholdReason;
-use matcher_picks::candidates::MatchResult;
+use matcher_spec::types::MatchResult;
 
 pub struct Verdict {
     pub state: State,

@@ -3,7 +3,7 @@ ghost use Prim.Native.Nat.{_≤_};
 ghost use lib.Dec.{eqb};
 ghost use mathlib.Core.Bool.{cond, not};
 ghost use mathlib.Core.Path.{_≡_};
-ghost use Rattle.matcher_picks.specs.Candidates.{listed};
+ghost use Rattle.matcher_spec.specs.Candidates.{listed};
 ghost use Rattle.engine_spec.specs.Publishing.{ambiguous, offTrack, offsetOf, onTrack, ready, unready, verdictOf};
 ghost use Rattle.engine_spec.specs.declared.types.Maybe.the-variants as maybe;
 ghost use Rattle.engine_spec.specs.declared.types.State.the-variants as state;
@@ -24,9 +24,9 @@ use engine_spec::types::RecordedMs;
 use engine_spec::types::Settings;
 use engine_spec::types::State;
 use engine_spec::types::WithholdReason;
-use matcher_picks::candidates::MatchResult;
 use matcher_picks::candidates::margin;
 use matcher_picks::candidates::nothing_found;
+use matcher_spec::types::MatchResult;
 use numbers::float::at_least;
 
 // What a window decides that was searched.

@@ -3,7 +3,7 @@ ghost use Prim.Native.Nat.{_<_};
 ghost use lib.ListN.{length};
 ghost use mathlib.Core.Bool.{_&&_, _||_, not};
 ghost use mathlib.Core.Path.{_≡_};
-ghost use Rattle.matcher_bands.specs.Timeline.{accepts};
+ghost use Rattle.matcher_spec.specs.Timeline.{accepts};
 ghost use Rattle.engine_spec.specs.Windows.{indexed, jumpsFrom, rereads, rereadsFrom};
 ghost use Rattle.engine_spec.specs.Submitting.{lockFrom};
 ghost use Rattle.engine_spec.specs.Lent.{window};

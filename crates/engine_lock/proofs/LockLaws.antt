@@ -7,12 +7,12 @@ use mathlib.Core.Path.{_≡_, refl, sym, ap, _∙_}
 use lib.ListN.{drop, take}
 use borrow.Author.Tests.{eq-eqb, not-true, not-false}
 use lib.Ieee.{Float, nan, inf, fin, le, eq, isNan, up, down}
-use Rattle.matcher.specs.Index.{Matcher}
-use Rattle.matcher.specs.Search.{localSearch}
-use Rattle.matcher_picks.specs.Candidates.{marginOf}
-use Rattle.matcher_picks.specs.declared.candidates.Candidate.{Candidate}
+use Rattle.matcher_spec.specs.Index.{Matcher}
+use Rattle.matcher_spec.specs.Search.{localSearch}
+use Rattle.matcher_spec.specs.Candidates.{marginOf}
+use Rattle.matcher_spec.specs.declared.types.Candidate.{Candidate}
 use Rattle.engine_spec.specs.Thresholds.{passingCorrelation, passingMargin, passingHalf, localMs}
-use Rattle.numbers.specs.Arithmetic.{_⊕_, _⊖_, zero⁺, atLeast}
+use Rattle.numbers_spec.specs.Arithmetic.{_⊕_, _⊖_, zero⁺, atLeast}
 use Rattle.engine_spec.specs.Windows.{Window, query, evidence, _after_}
 use Rattle.engine_spec.specs.Tracking as tracking
 use Rattle.engine_spec.specs.Tracking.{samePlace, mayCoast, supports, movedOffset, unsupported, followed, tracked}

@@ -8,24 +8,24 @@ use mathlib.Core.Path.{_≡_, refl, sym, ap, subst, _∙_}
 use borrow.Author.Tests.{ne-eqb, lt-ltb}
 use lib.ListN.{length}
 use lib.Ieee.{Float}
-use Rattle.matcher.specs.Index.{Matcher}
-use Rattle.matcher.specs.declared.index.Reference.{Reference}
-use Rattle.matcher.specs.Search as search
-use Rattle.matcher.specs.Search.{FilledQuery, localSearch, wholeSearch}
-use Rattle.matcher_picks.specs.Candidates.{resultOf, listed}
-use Rattle.matcher_picks.specs.declared.candidates.Candidate.{Candidate}
-use Rattle.matcher_picks.specs.declared.candidates.MatchResult.{MatchResult}
+use Rattle.matcher_spec.specs.Index.{Matcher}
+use Rattle.matcher_spec.specs.declared.types.Reference.{Reference}
+use Rattle.matcher_spec.specs.Search as search
+use Rattle.matcher_spec.specs.Search.{FilledQuery, localSearch, wholeSearch}
+use Rattle.matcher_spec.specs.Candidates.{resultOf, listed}
+use Rattle.matcher_spec.specs.declared.types.Candidate.{Candidate}
+use Rattle.matcher_spec.specs.declared.types.MatchResult.{MatchResult}
 use Rattle.engine_spec.specs.Windows.{Index, Window, query, evidence, endpointOf}
 use Rattle.engine_spec.specs.Room.{Room}
 use Rattle.engine_spec.specs.declared.types.Settings.{Settings}
 use Rattle.engine_spec.specs.Refusals.{bothOrNeither}
 use Rattle.engine_spec.specs.Tracking as tracking
 use Rattle.engine_spec.specs.Tracking.{tracked, followed, mayCoast, unsupported}
-use Rattle.numbers.specs.Arithmetic.{_⊕_, _⊖_}
+use Rattle.numbers_spec.specs.Arithmetic.{_⊕_, _⊖_}
 use Rattle.engine_spec.specs.Thresholds.{localMs}
 use Rattle.engine_spec.specs.declared.types.RecordedMs.{RecordedMs}
 use Rattle.engine_spec.specs.declared.types.Hypothesis.the-variants as hypothesis
-use Rattle.matcher_picks.proofs.CandidateLaws.{listed-result}
+use Rattle.matcher_spec.proofs.CandidateLaws.{listed-result}
 use Rattle.engine_lock.proofs.LockLaws.{coasting, dropped}
 use Rattle.engine_spec.specs.Locking.{Reached, passed, wholeDue, wholeSearched, locallySearched, searched}
 use Rattle.engine_spec.specs.declared.types.Hypothesis.{Hypothesis}

@@ -1,7 +1,6 @@
 -- The structs of the code as the records that the definitions take. Definitions only.
-use Prim.Native.Nat.{ℕ}
 use mathlib.Core.List.{[], _∷_}
-use Rattle.matcher_picks.specs.Candidates.{listed}
+use Rattle.matcher_spec.specs.Candidates.{listed}
 use Rattle.engine_spec.specs.Windows.{Window}
 use Rattle.engine_spec.specs.Tracking as tracking
 use Rattle.engine_spec.specs.Locking as locking

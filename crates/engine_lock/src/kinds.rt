@@ -2,7 +2,7 @@
 use engine_spec::types::Hypothesis;
 use engine_spec::types::Lock;
 use engine_spec::types::Maybe;
-use matcher_picks::candidates::MatchResult;
+use matcher_spec::types::MatchResult;
 
 pub struct Reached {
     pub provisional: bool,

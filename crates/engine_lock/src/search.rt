@@ -5,8 +5,8 @@ ghost use lib.ListN.{length};
 ghost use mathlib.Core.Bool.{cond, false, true};
 ghost use mathlib.Core.List.{[]};
 ghost use mathlib.Core.Path.{_≡_};
-ghost use Rattle.matcher_bands.specs.Centring.{wideHop};
-ghost use Rattle.matcher.specs.Search.{FilledQuery, wholeSearch, windowOf};
+ghost use Rattle.matcher_spec.specs.Centring.{wideHop};
+ghost use Rattle.matcher_spec.specs.Search.{FilledQuery, wholeSearch, windowOf};
 ghost use Rattle.engine_spec.specs.declared.types.RecordedMs as recorded;
 ghost use Rattle.engine_spec.specs.declared.types.Hypothesis.the-variants as hypothesis;
 ghost use Rattle.engine_spec.specs.Windows.{matcherIn, query, referenceOf};
@@ -30,11 +30,11 @@ use engine_spec::types::Hypothesis;
 use engine_spec::types::Lock;
 use engine_spec::types::RecordedMs;
 use engine_spec::types::Settings;
-use matcher::index::Reference;
 use matcher::search::fill_query;
 use matcher::search::local_found;
 use matcher::search::whole_found;
 use matcher_picks::candidates::nothing_found;
+use matcher_spec::types::Reference;
 
 // A local search for the track, if there is one that may still coast, then a whole search, if one is
 // due.

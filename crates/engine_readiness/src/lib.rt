@@ -2,14 +2,12 @@
 ghost use Prim.Native.Nat.{ℕ, _<_, _≤_};
 ghost use lib.Ieee.{le, nan};
 ghost use lib.ListN.{getD, length};
-ghost use mathlib.Core.Bool.{cond};
 ghost use mathlib.Core.Path.{_≡_};
-ghost use Rattle.matcher_bands.specs.Rows.{sumTo};
-ghost use Rattle.numbers.specs.Arithmetic.{_⊘_};
-ghost use Rattle.numbers.specs.Exponential.{tenTo};
+ghost use Rattle.numbers_spec.specs.Rows.{sumTo};
+ghost use Rattle.numbers_spec.specs.Arithmetic.{_⊘_};
+ghost use Rattle.numbers_spec.specs.Exponential.{tenTo};
 ghost use Rattle.engine_spec.specs.Thresholds.{ten};
-ghost use Rattle.engine_spec.specs.Windows.{duration};
-ghost use Rattle.engine_spec.specs.Readiness.{activeFraction, averageEnergy, isNone, meanPower, minimumDuration, readiness, tally};
+ghost use Rattle.engine_spec.specs.Readiness.{activeFraction, averageEnergy, isNone, minimumDuration, readiness, tally};
 ghost use Rattle.engine_spec.specs.Lent.{window};
 use engine_spec::thresholds::TEN;
 use engine_spec::types::Configuration;

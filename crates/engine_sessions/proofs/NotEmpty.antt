@@ -5,10 +5,10 @@ use mathlib.Core.Path.{_≡_, refl, sym, ap, _∙_, subst}
 use lib.Dec.{T, lit<}
 use lib.ListN.{length, getD}
 use lib.Ieee.{Float, binary32, fits}
-use Rattle.matcher_laws.specs.Words.{Every, F32}
+use Rattle.matcher_spec.specs.Words.{Every, F32}
 use Rattle.engine_spec.specs.Refusals.{every}
 use Rattle.engine_spec.specs.Chain.{Answered}
-use Rattle.engine_spec.specs.Guarantee.{remaining, isComputed, AllHanded, nothing, next, Handed, Promised, unanswered}
+use Rattle.engine_spec.specs.Guarantee.{remaining, isComputed, AllHanded, nothing, next, Handed, unanswered}
 use Rattle.engine_spec.specs.Opening.{opening, openedSettings, matcherOfFilm}
 use Rattle.engine_spec.specs.Windows.{Window}
 use Rattle.engine_spec.specs.declared.types.ClockMs.{ClockMs}
@@ -18,7 +18,7 @@ use Rattle.engine_spec.proofs.Handed.{every-at}
 use Rattle.engine_spec.proofs.Openings.{opened-filled}
 use Rattle.engine_spec.proofs.Run.{guarantee}
 use Rattle.engine_sessions.specs.Computed.{submitNow}
-use Rattle.engine_sessions.specs.Session.{roomFor, engineOf, submissions, replied, allReplied}
+use Rattle.engine_sessions.specs.Session.{roomFor, submissions, replied, allReplied}
 use Rattle.engine_sessions.specs.NotEmpty.{left, Locks}
 use Rattle.engine_sessions.specs.ByAChain.{configuration, hop, film, index, window1, window2, window3, window4, window5, window6, window7, window8, session}
 use Rattle.engine_sessions.proofs.ByAChain.{recorded}

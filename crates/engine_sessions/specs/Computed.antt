@@ -1,20 +1,20 @@
 -- Submission with all that it computes with: `unfolding submitNow` unfolds every definition below it. Definitions only.
 use lib.Ieee.{neg, add, sub, mul, div, lt, le, eq, isNan, ofInt, toUnsigned, ofBits, toBits}
-use Rattle.numbers.specs.Whole.{wholeNearest, wholeBelow, wholeAbove}
-use Rattle.numbers.specs.Narrow.{nearestF32}
-use Rattle.numbers.specs.Root.{rootOf}
-use Rattle.numbers.specs.Exponential.{expSeries, twoTo, expOf, tenTo}
-use Rattle.numbers.specs.Logarithm.{logSeries, logOf, log1pOf, log10Of}
-use Rattle.number_laws.specs.Values.{magnitude}
-use Rattle.matcher_bands.specs.Rows.{tabulate, rows, allTo, sumTo}
-use Rattle.matcher_bands.specs.Timeline.{onTime, regular, accepts, validValues}
-use Rattle.matcher_bands.specs.Centring.{contextFrames, radius, logs, meanAround, centredAt, centred}
-use Rattle.matcher_bands.specs.Energy.{totals, average}
-use Rattle.matcher_scores.specs.Scores.{lane, lanes, onward, dot, varianceFloor, bandTerm, termAt, correlationAt, correlations, partTerm, partAt, scorePart}
-use Rattle.matcher_picks.specs.Peaks.{maximumTo, nearTo, freeTo, peaksFrom}
-use Rattle.matcher_picks.specs.Candidates.{insert, sortInto, crowded, independentFrom, marginOf}
-use Rattle.matcher.specs.Index.{acceptsReference, matcherOf}
-use Rattle.matcher.specs.Search.{searchable, queryOf, vertex, fraction, candidateOf, candidateIn, candidatesAt, localFound, coarseScores, separation, wholeFound, wholeSearch, localSearch}
+use Rattle.numbers_spec.specs.Whole.{wholeNearest, wholeBelow, wholeAbove}
+use Rattle.numbers_spec.specs.Narrow.{nearestF32}
+use Rattle.numbers_spec.specs.Root.{rootOf}
+use Rattle.numbers_spec.specs.Exponential.{expSeries, twoTo, expOf, tenTo}
+use Rattle.numbers_spec.specs.Logarithm.{logSeries, logOf, log1pOf, log10Of}
+use Rattle.numbers_spec.specs.Values.{magnitude}
+use Rattle.numbers_spec.specs.Rows.{tabulate, rows, allTo, sumTo}
+use Rattle.matcher_spec.specs.Timeline.{onTime, regular, accepts, validValues}
+use Rattle.matcher_spec.specs.Centring.{contextFrames, radius, logs, meanAround, centredAt, centred}
+use Rattle.matcher_spec.specs.Energy.{totals, average}
+use Rattle.matcher_spec.specs.Scores.{lane, lanes, onward, dot, varianceFloor, bandTerm, termAt, correlationAt, correlations, partTerm, partAt, scorePart}
+use Rattle.matcher_spec.specs.Peaks.{maximumTo, nearTo, freeTo, peaksFrom}
+use Rattle.matcher_spec.specs.Candidates.{insert, sortInto, crowded, independentFrom, marginOf}
+use Rattle.matcher_spec.specs.Index.{acceptsReference, matcherOf}
+use Rattle.matcher_spec.specs.Search.{searchable, queryOf, vertex, fraction, candidateOf, candidateIn, candidatesAt, localFound, coarseScores, separation, wholeFound, wholeSearch, localSearch}
 use Rattle.engine_spec.specs.Windows.{evidence, jumpsFrom, rereadsFrom}
 use Rattle.engine_spec.specs.Refusals.{numberOf, every, validConfiguration, indexFits, openingRefusal, validSettings, validHypothesis, validLock, validMilestone, validMilestones, validEndpoint, validEstimate, validSnapshot, validLast, validEngine, validWindow, workFits, Submission, handedRefusal, submissionRefusal}
 use Rattle.engine_spec.specs.Opening.{blankSnapshot, freshEngine, noEngine, opening, fills, openedIndex}

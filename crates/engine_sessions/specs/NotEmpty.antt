@@ -3,8 +3,7 @@ use Prim.Native.Nat.{ℕ, _<_}
 use mathlib.Core.List.{List}
 use mathlib.Core.Path.{_≡_}
 use lib.ListN.{length, getD}
-use Rattle.matcher.specs.Index.{Matcher}
-use Rattle.matcher_laws.specs.Words.{Every, F32}
+use Rattle.matcher_spec.specs.Words.{Every, F32}
 use Rattle.engine_spec.specs.Opening.{opening, openedSettings, matcherOfFilm}
 use Rattle.engine_spec.specs.Chain.{Answered, OnChain}
 use Rattle.engine_spec.specs.Guarantee.{answersTo, remaining, AllHanded, Promised, unanswered}

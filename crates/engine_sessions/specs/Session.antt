@@ -5,8 +5,8 @@ use mathlib.Core.List.{List, [], _∷_, _++_}
 use mathlib.Core.Path.{_≡_}
 use lib.ListN.{length, replicate}
 use lib.Ieee.{Float}
-use Rattle.numbers.specs.Arithmetic.{zero⁺}
-use Rattle.matcher_picks.specs.Peaks.{most}
+use Rattle.numbers_spec.specs.Arithmetic.{zero⁺}
+use Rattle.matcher_spec.specs.Peaks.{most}
 use Rattle.engine_spec.specs.Windows.{Soundtrack, Index, Window, endpointOf}
 use Rattle.engine_spec.specs.Refusals.{Submission}
 use Rattle.engine_spec.specs.Opening.{blankCandidate, blankSnapshot, opening}

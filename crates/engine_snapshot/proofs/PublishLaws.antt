@@ -6,9 +6,9 @@ use mathlib.Core.Path.{_≡_, refl}
 use lib.ListN.{length}
 use lib.Ieee.{Float, eq}
 use native.Mathlib.Omega.{arith}
-use Rattle.numbers.specs.Arithmetic.{zero⁺}
-use Rattle.matcher_picks.specs.Candidates.{marginOf}
-use Rattle.matcher_picks.specs.declared.candidates.Candidate.{Candidate}
+use Rattle.numbers_spec.specs.Arithmetic.{zero⁺}
+use Rattle.matcher_spec.specs.Candidates.{marginOf}
+use Rattle.matcher_spec.specs.declared.types.Candidate.{Candidate}
 use Rattle.engine_spec.specs.Windows.{Window, duration, endpointOf}
 use Rattle.engine_spec.specs.Readiness.{activeFraction}
 use Rattle.engine_spec.specs.Publishing.{Decision, ambiguous, ofBest, phaseOf, stageOf, estimateAt, confidenceOf, isPublishing, trackCorrelation, trackCount, magnitudeOf, candidateArray, spectralOf, diagnosticsOf, publish}

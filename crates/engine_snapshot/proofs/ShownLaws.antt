@@ -14,10 +14,10 @@ use lib.IntN.{ℤ}
 use lib.Ieee.{Float, nan, inf, fin, binary64, fits, eq, lt, neg, up, down}
 use lib.Ieee.Fits.{neg-fits, up-pos}
 use lib.Ieee.Back.{whole-unique}
-use Rattle.numbers.specs.Arithmetic.{zero⁺}
-use Rattle.number_laws.specs.Values.{magnitude}
-use Rattle.matcher_picks.specs.Peaks.{most}
-use Rattle.matcher_picks.specs.declared.candidates.Candidate.{Candidate}
+use Rattle.numbers_spec.specs.Arithmetic.{zero⁺}
+use Rattle.numbers_spec.specs.Values.{magnitude}
+use Rattle.matcher_spec.specs.Peaks.{most}
+use Rattle.matcher_spec.specs.declared.types.Candidate.{Candidate}
 use Rattle.engine_spec.specs.Windows.{Window}
 use Rattle.engine_spec.specs.Opening.{blankCandidate}
 use Rattle.engine_spec.specs.Publishing.{comparableFrames, coverage, candidatesShown, candidateArray}

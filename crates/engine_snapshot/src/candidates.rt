@@ -2,7 +2,7 @@
 ghost use Prim.Native.Nat.{_<_, _≤_};
 ghost use lib.ListN.{length};
 ghost use mathlib.Core.Path.{_≡_};
-ghost use Rattle.matcher_picks.specs.Candidates.{listed};
+ghost use Rattle.matcher_spec.specs.Candidates.{listed};
 ghost use Rattle.engine_spec.specs.Opening.{blankCandidate};
 ghost use Rattle.engine_spec.specs.Publishing.{comparableFrames, coverage};
 ghost use Rattle.engine_spec.specs.Lent.{window};
@@ -11,7 +11,7 @@ use engine_spec::thresholds::TRIMMED_MS;
 use engine_spec::types::CandidateDiagnostics;
 use matcher_bands::centring::context_frames;
 use matcher_bands::counts::less;
-use matcher_picks::candidates::MatchResult;
+use matcher_spec::types::MatchResult;
 use numbers::float::at_least;
 use numbers::whole::count;
 

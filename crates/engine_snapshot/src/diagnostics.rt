@@ -3,9 +3,9 @@ ghost use Prim.Native.Nat.{_<_, _≤_};
 ghost use lib.ListN.{length};
 ghost use mathlib.Core.Bool.{cond};
 ghost use mathlib.Core.Path.{_≡_};
-ghost use Rattle.numbers.specs.Arithmetic.{zero⁺};
-ghost use Rattle.number_laws.specs.Values.{magnitude};
-ghost use Rattle.matcher_picks.specs.Candidates.{listed, marginOf};
+ghost use Rattle.numbers_spec.specs.Arithmetic.{zero⁺};
+ghost use Rattle.numbers_spec.specs.Values.{magnitude};
+ghost use Rattle.matcher_spec.specs.Candidates.{listed, marginOf};
 ghost use Rattle.engine_spec.specs.Publishing.{ambiguous, coverage, diagnosticsOf, isPublishing, magnitudeOf, trackCount};
 ghost use Rattle.engine_spec.specs.Lent.{window};
 ghost use Rattle.engine_decision.specs.Decided.{decisionIn};
@@ -22,8 +22,8 @@ use engine_spec::types::Hypothesis;
 use engine_spec::types::Maybe;
 use engine_spec::types::Settings;
 use engine_spec::types::State;
-use matcher_picks::candidates::MatchResult;
 use matcher_picks::candidates::margin;
+use matcher_spec::types::MatchResult;
 use numbers::whole::count;
 
 // All diagnostics. The track is counted as it stands after the window.

@@ -3,8 +3,8 @@ ghost use Prim.Native.Nat.{_<_, _≤_};
 ghost use lib.ListN.{length};
 ghost use mathlib.Core.Bool.{cond};
 ghost use mathlib.Core.Path.{_≡_};
-ghost use Rattle.matcher_picks.specs.Candidates.{listed};
-ghost use Rattle.matcher_picks.specs.declared.candidates.Candidate.{Candidate};
+ghost use Rattle.matcher_spec.specs.Candidates.{listed};
+ghost use Rattle.matcher_spec.specs.declared.types.Candidate.{Candidate};
 ghost use Rattle.engine_spec.specs.Publishing.{betweenZeroAndOne, confidenceOf, estimateAt, isPublishing, ofBest, phaseOf, publish, stageOf, trackCorrelation};
 ghost use Rattle.engine_spec.specs.Lent.{window};
 ghost use Rattle.engine_lock.specs.Views.{endingAt, reachedIn};
@@ -26,7 +26,7 @@ use engine_spec::types::Settings;
 use engine_spec::types::Snapshot;
 use engine_spec::types::Stage;
 use engine_spec::types::State;
-use matcher_picks::candidates::Candidate;
+use matcher_spec::types::Candidate;
 use numbers::whole::count;
 
 // The one place where a snapshot is made of a decision; the milestones' readings are as given.

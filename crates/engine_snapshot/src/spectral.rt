@@ -2,8 +2,8 @@
 ghost use Prim.Native.Nat.{_≤_};
 ghost use mathlib.Core.Bool.{cond};
 ghost use mathlib.Core.Path.{_≡_};
-ghost use Rattle.matcher_picks.specs.Candidates.{listed, marginOf};
-ghost use Rattle.matcher_picks.specs.declared.candidates.Candidate.{Candidate};
+ghost use Rattle.matcher_spec.specs.Candidates.{listed, marginOf};
+ghost use Rattle.matcher_spec.specs.declared.types.Candidate.{Candidate};
 ghost use Rattle.engine_spec.specs.Publishing.{freshEvidence, ofBest, spectralOf};
 ghost use Rattle.engine_spec.specs.declared.types.Maybe.the-variants as maybe;
 ghost use Rattle.engine_decision.specs.Decided.{decisionIn};
@@ -12,9 +12,9 @@ use engine_lock::track::best_of;
 use engine_spec::types::Hypothesis;
 use engine_spec::types::Maybe;
 use engine_spec::types::SpectralDiagnostics;
-use matcher_picks::candidates::Candidate;
-use matcher_picks::candidates::MatchResult;
 use matcher_picks::candidates::margin;
+use matcher_spec::types::Candidate;
+use matcher_spec::types::MatchResult;
 use numbers::float::at_least;
 use numbers::whole::count;
 

@@ -7,11 +7,11 @@ use lib.Dec.{T, T-not, ltb, leb·zero, leb·suc-suc}
 use lib.ListN.{length, getD}
 use lib.Ieee.{Float, binary64, le, lt, ofBits}
 use lib.Ieee.Scale.{finite}
-use Rattle.numbers.specs.Arithmetic.{_⊕_, _⊖_, zero⁺, absolute}
-use Rattle.number_laws.proofs.Sums.{sub-self}
-use Rattle.matcher_picks.specs.declared.candidates.Candidate.{Candidate}
-use Rattle.matcher.specs.Index.{Matcher}
-use Rattle.matcher.specs.Search.{wholeSearch, localSearch}
+use Rattle.numbers_spec.specs.Arithmetic.{_⊕_, _⊖_, zero⁺, absolute}
+use Rattle.numbers_spec.proofs.Sums.{sub-self}
+use Rattle.matcher_spec.specs.declared.types.Candidate.{Candidate}
+use Rattle.matcher_spec.specs.Index.{Matcher}
+use Rattle.matcher_spec.specs.Search.{wholeSearch, localSearch}
 use Rattle.engine_spec.specs.Thresholds.{coastMostMs, localMs, samePlaceMs}
 use Rattle.engine_spec.specs.Windows.{Window, indexed, query, endpointOf, evidence, _after_}
 use Rattle.engine_spec.specs.Opening.{blankCandidate}

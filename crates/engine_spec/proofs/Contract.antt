@@ -1,7 +1,7 @@
 -- What opening's contract says, of whatever equals what opening gives. Assumes nothing.
 use mathlib.Core.Path.{_≡_, sym, subst}
 use lib.Ieee.{Float}
-use Rattle.matcher_laws.specs.Words.{Every, F32}
+use Rattle.matcher_spec.specs.Words.{Every, F32}
 use Rattle.engine_spec.specs.Windows.{Soundtrack, Index}
 use Rattle.engine_spec.specs.Opening.{opening, openedIndex}
 use Rattle.engine_spec.specs.declared.types.Configuration.{Configuration}

@@ -6,14 +6,14 @@ use mathlib.Core.Path.{_≡_}
 use lib.Dec.{T}
 use lib.Ieee.{Float}
 use lib.Ieee.Scale.{finite}
-use Rattle.numbers.specs.Arithmetic.{_⊗_, zero⁺, atLeast}
-use Rattle.number_laws.specs.Values.{Number}
-use Rattle.matcher_bands.specs.Centring.{contextFrames}
-use Rattle.matcher_picks.specs.Candidates.{marginOf}
-use Rattle.matcher_picks.specs.declared.candidates.Candidate.{Candidate}
-use Rattle.matcher.specs.Index.{Matcher}
-use Rattle.matcher.specs.Search.{wholeSearch, localSearch}
-use Rattle.matcher_laws.specs.SoundSearch.{SoundResult}
+use Rattle.numbers_spec.specs.Arithmetic.{_⊗_, zero⁺, atLeast}
+use Rattle.numbers_spec.specs.Values.{Number}
+use Rattle.matcher_spec.specs.Centring.{contextFrames}
+use Rattle.matcher_spec.specs.Candidates.{marginOf}
+use Rattle.matcher_spec.specs.declared.types.Candidate.{Candidate}
+use Rattle.matcher_spec.specs.Index.{Matcher}
+use Rattle.matcher_spec.specs.Search.{wholeSearch, localSearch}
+use Rattle.matcher_spec.specs.SoundSearch.{SoundResult}
 use Rattle.engine_spec.specs.Windows.{Window, indexed, query, endpointOf, evidence, _after_}
 use Rattle.engine_spec.specs.Readiness.{isNone}
 use Rattle.engine_spec.specs.Tracking.{mayCoast}

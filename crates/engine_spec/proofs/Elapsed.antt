@@ -11,12 +11,12 @@ use lib.Ieee.{Float, nan, inf, fin, binary64, up, down, round, sum, add, sub, ne
 use lib.Ieee.Fits.{sub-fits}
 use lib.Ieee.Back.{whole-unique}
 use lib.Ieee.Scale.{finite}
-use Rattle.numbers.specs.Arithmetic.{_⊖_, zero⁺, atLeast}
-use Rattle.numbers.proofs.Value.{finite-no-nan}
-use Rattle.number_laws.specs.Values.{Number, magnitude}
-use Rattle.number_laws.proofs.Order.{tested→ordered, below→le, cross, neg-finite, le-transitive, le-total, not-lt→le, magnitude-above, between-at-most}
-use Rattle.number_laws.proofs.Rounding.{sided, sided-number, round-sided}
-use Rattle.number_laws.proofs.Sums.{add-rounded, sub-mono, distance-symmetric}
+use Rattle.numbers_spec.specs.Arithmetic.{_⊖_, zero⁺, atLeast}
+use Rattle.numbers_spec.proofs.Value.{finite-no-nan}
+use Rattle.numbers_spec.specs.Values.{Number, magnitude}
+use Rattle.numbers_spec.proofs.Order.{tested→ordered, below→le, cross, neg-finite, le-transitive, le-total, not-lt→le, magnitude-above, between-at-most}
+use Rattle.numbers_spec.proofs.Rounding.{sided, sided-number, round-sided}
+use Rattle.numbers_spec.proofs.Sums.{add-rounded, sub-mono, distance-symmetric}
 use Rattle.engine_spec.specs.Thresholds.{rereadMs}
 use Rattle.engine_spec.proofs.Tests.{cond-elim}
 

@@ -2,10 +2,10 @@
 use mathlib.Core.Bool.{Bool, true, false, not, _||_}
 use mathlib.Core.Path.{_≡_, refl}
 use lib.Ieee.{binary64, round, units, size, add, sub, mul, div, neg, ofBits, toUnsigned, lt, le}
-use Rattle.numbers.specs.Whole.{wholeNearest}
-use Rattle.number_laws.proofs.Figures as number
-use Rattle.matcher_bands.specs.Centring.{contextFrames, radius}
-use Rattle.matcher_laws.proofs.Figures as matcher
+use Rattle.numbers_spec.specs.Whole.{wholeNearest}
+use Rattle.numbers_spec.proofs.Figures as number
+use Rattle.matcher_spec.specs.Centring.{contextFrames, radius}
+use Rattle.matcher_spec.proofs.Figures as matcher
 use Rattle.engine_spec.specs.Windows.{indexed, endpointOf, evidence, jumpsFrom, rereadsFrom}
 use Rattle.engine_spec.specs.Thresholds.{rereadMs}
 use Rattle.engine_spec.specs.Submitting.{submit, reread, computedFrom, answeredFrom}

@@ -8,9 +8,9 @@ use native.Mathlib.Omega.{arith}
 use lib.Dec.{T}
 use lib.Ieee.{Float, binary64, lt, le}
 use lib.Ieee.Scale.{finite}
-use Rattle.numbers.specs.Arithmetic.{_⊗_, zero⁺, atLeast}
-use Rattle.number_laws.proofs.Sums.{sub-self, sub-not-negative}
-use Rattle.matcher_bands.specs.Centring.{contextFrames}
+use Rattle.numbers_spec.specs.Arithmetic.{_⊗_, zero⁺, atLeast}
+use Rattle.numbers_spec.proofs.Sums.{sub-self, sub-not-negative}
+use Rattle.matcher_spec.specs.Centring.{contextFrames}
 use Rattle.engine_spec.specs.Thresholds.{coastMostMs, rereadMs}
 use Rattle.engine_spec.specs.Windows.{endpointOf, evidence, _after_}
 use Rattle.engine_spec.specs.Readiness.{isNone}

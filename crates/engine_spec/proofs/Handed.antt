@@ -11,13 +11,13 @@ use lib.Count.{trailingZeros}
 use lib.ListN.{length, getD}
 use lib.Ieee.{Float, nan, le, neg, ofBits, ofFields, odd}
 use lib.Ieee.Scale.{finite}
-use Rattle.number_laws.specs.Values.{Within}
-use Rattle.number_laws.proofs.Order.{between-at-most}
-use Rattle.matcher_bands.specs.Rows.{allTo}
-use Rattle.matcher_bands.specs.Timeline.{validValues}
-use Rattle.matcher_laws.specs.Words.{Every, F32}
-use Rattle.matcher_laws.specs.SoundSearch.{GoodWindow}
-use Rattle.matcher_laws.proofs.Bounds.{widened-to, at-most-within}
+use Rattle.numbers_spec.specs.Values.{Within}
+use Rattle.numbers_spec.proofs.Order.{between-at-most}
+use Rattle.numbers_spec.specs.Rows.{allTo}
+use Rattle.matcher_spec.specs.Timeline.{validValues}
+use Rattle.matcher_spec.specs.Words.{Every, F32}
+use Rattle.matcher_spec.specs.SoundSearch.{GoodWindow}
+use Rattle.matcher_spec.proofs.Bounds.{widened-to, at-most-within}
 use Rattle.engine_spec.specs.Limits.{farthestMs, windowMost, bandsMost}
 use Rattle.engine_spec.specs.Windows.{query, endpointOf}
 use Rattle.engine_spec.specs.Refusals.{numberOf, refuses, unless, near, every, indexFits, validWindow, validEnergy, Submission, handedRefusal}

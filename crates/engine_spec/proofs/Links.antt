@@ -8,11 +8,11 @@ use native.Mathlib.Omega.{arith}
 use lib.Dec.{T, ltb, ltb→lt, nltb→le}
 use lib.Ieee.{Float, binary64, lt, le}
 use lib.Ieee.Scale.{finite}
-use Rattle.numbers.specs.Arithmetic.{_⊕_, _⊖_, _⊗_, two}
-use Rattle.numbers.proofs.Value.{finite-no-nan}
-use Rattle.number_laws.proofs.Order.{le-transitive, le-self, not-lt→le}
-use Rattle.number_laws.proofs.Sums.{sub-mono}
-use Rattle.matcher_bands.specs.Centring.{contextFrames}
+use Rattle.numbers_spec.specs.Arithmetic.{_⊕_, _⊖_, _⊗_, two}
+use Rattle.numbers_spec.proofs.Value.{finite-no-nan}
+use Rattle.numbers_spec.proofs.Order.{le-transitive, le-self, not-lt→le}
+use Rattle.numbers_spec.proofs.Sums.{sub-mono}
+use Rattle.matcher_spec.specs.Centring.{contextFrames}
 use Rattle.engine_spec.specs.Thresholds.{chainMs, chainRecent}
 use Rattle.engine_spec.specs.Windows.{Window, start, endpointOf, evidence, jumpsFrom, _after_}
 use Rattle.engine_spec.specs.Chain.{Answered, windowAt, shownAt, spectralAt, wholeAt, Passes, when, jumpAt, silent, interrupts, Unbroken, Latest, neighbouring, keeping, Chain}

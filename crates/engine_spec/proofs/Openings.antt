@@ -10,16 +10,16 @@ use lib.ListN.{length, getD, drop}
 use lib.Seq.{drop-append-seam}
 use lib.Ieee.{Float, nan, le, lt, eq, neg, ofBits}
 use lib.Ieee.Scale.{finite}
-use Rattle.numbers.specs.Arithmetic.{zero⁺}
-use Rattle.number_laws.specs.Values.{Number}
-use Rattle.matcher_bands.specs.Rows.{allTo}
-use Rattle.matcher_bands.specs.Timeline.{regular, onTime, validValues}
-use Rattle.matcher_picks.specs.declared.candidates.Candidate.{Candidate}
-use Rattle.matcher.specs.Index.{Matcher, acceptsReference, matcherOf, filled, lentMatcher}
-use Rattle.matcher_laws.specs.Words.{Every, F32}
-use Rattle.matcher_laws.specs.SoundSearch.{GoodReference, SoundResult}
-use Rattle.matcher_laws.proofs.SoundSearch.{whole-sound, local-sound}
-use Rattle.matcher_laws.proofs.FilledIndex.{filled-index}
+use Rattle.numbers_spec.specs.Arithmetic.{zero⁺}
+use Rattle.numbers_spec.specs.Values.{Number}
+use Rattle.numbers_spec.specs.Rows.{allTo}
+use Rattle.matcher_spec.specs.Timeline.{regular, onTime, validValues}
+use Rattle.matcher_spec.specs.declared.types.Candidate.{Candidate}
+use Rattle.matcher_spec.specs.Index.{Matcher, acceptsReference, matcherOf, filled, lentMatcher}
+use Rattle.matcher_spec.specs.Words.{Every, F32}
+use Rattle.matcher_spec.specs.SoundSearch.{GoodReference, SoundResult}
+use Rattle.matcher_spec.proofs.SoundSearch.{whole-sound, local-sound}
+use Rattle.matcher_spec.proofs.FilledIndex.{filled-index}
 use Rattle.engine_spec.specs.Limits.{framesMost, bandsMost}
 use Rattle.engine_spec.specs.Windows.{Soundtrack, Index, Window, indexed, matcherIn, query, endpointOf}
 use Rattle.engine_spec.specs.Refusals.{numberOf, refuses, near, nearOrNotFinite, every, validConfiguration, hopInRange, countsInRange, bothOrNeither, openingRefusal, validSettings, Submission, handedRefusal}

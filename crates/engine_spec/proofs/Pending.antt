@@ -9,14 +9,14 @@ use native.Mathlib.Omega.{arith}
 use lib.Dec.{T, T-not}
 use lib.Ieee.{Float, binary64, le}
 use lib.Ieee.Scale.{finite}
-use Rattle.numbers.specs.Arithmetic.{_⊖_, _⊗_}
-use Rattle.number_laws.specs.Values.{Number}
-use Rattle.number_laws.proofs.Order.{le-transitive}
-use Rattle.number_laws.proofs.Sums.{sub-anti}
-use Rattle.matcher_bands.specs.Centring.{contextFrames}
-use Rattle.matcher_picks.specs.declared.candidates.Candidate.{Candidate}
-use Rattle.matcher.specs.Index.{Matcher}
-use Rattle.matcher.specs.Search.{wholeSearch}
+use Rattle.numbers_spec.specs.Arithmetic.{_⊖_, _⊗_}
+use Rattle.numbers_spec.specs.Values.{Number}
+use Rattle.numbers_spec.proofs.Order.{le-transitive}
+use Rattle.numbers_spec.proofs.Sums.{sub-anti}
+use Rattle.matcher_spec.specs.Centring.{contextFrames}
+use Rattle.matcher_spec.specs.declared.types.Candidate.{Candidate}
+use Rattle.matcher_spec.specs.Index.{Matcher}
+use Rattle.matcher_spec.specs.Search.{wholeSearch}
 use Rattle.engine_spec.specs.Thresholds.{chainMs, chainRecent}
 use Rattle.engine_spec.specs.Windows.{Window, query, _after_}
 use Rattle.engine_spec.specs.Tracking.{samePlace}

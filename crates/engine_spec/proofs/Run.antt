@@ -8,7 +8,7 @@ use native.Mathlib.Nat.{lt-irrefl}
 use lib.Dec.{T}
 use lib.ListN.{length, getD}
 use lib.Ieee.{Float}
-use Rattle.matcher.specs.Index.{Matcher}
+use Rattle.matcher_spec.specs.Index.{Matcher}
 use Rattle.engine_spec.specs.Windows.{Soundtrack, Index, Window, rereads}
 use Rattle.engine_spec.specs.Refusals.{Submission, refuses, handedRefusal, submissionRefusal}
 use Rattle.engine_spec.specs.Opening.{freshEngine, openedSettings, matcherOfFilm}

@@ -5,9 +5,9 @@ use mathlib.Core.Path.{_≡_, refl, ap, subst, _∙_}
 use native.Mathlib.Nat.{le-of-suc-le-suc, not-suc-le-zero, lt-trans}
 use lib.ListN.{length, getD}
 use lib.Ieee.{Float}
-use Rattle.matcher_picks.specs.Candidates.{blank}
-use Rattle.matcher_picks.specs.declared.candidates.Candidate.{Candidate}
-use Rattle.matcher_laws.specs.ResultLaws.{Pairs, Far}
+use Rattle.matcher_spec.specs.Candidates.{blank}
+use Rattle.matcher_spec.specs.declared.types.Candidate.{Candidate}
+use Rattle.matcher_spec.specs.ResultLaws.{Pairs, Far}
 use Rattle.engine_spec.specs.Windows.{Window}
 use Rattle.engine_spec.specs.Opening.{blankCandidate}
 use Rattle.engine_spec.specs.Publishing.{candidatesShown}

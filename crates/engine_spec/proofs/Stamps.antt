@@ -4,8 +4,8 @@ use mathlib.Core.List.{List}
 use mathlib.Core.Path.{_≡_, refl, ap, _∙_}
 use lib.Dec.{T}
 use lib.Ieee.{Float}
-use Rattle.matcher_picks.specs.declared.candidates.Candidate.{Candidate}
-use Rattle.matcher.specs.Index.{Matcher}
+use Rattle.matcher_spec.specs.declared.types.Candidate.{Candidate}
+use Rattle.matcher_spec.specs.Index.{Matcher}
 use Rattle.engine_spec.specs.Windows.{Window}
 use Rattle.engine_spec.specs.Locking.{Reached, Searched, afterPassing, afterChain}
 use Rattle.engine_spec.specs.Submitting.{isThere, stampedOnce, stampedWithFinal, stamp}

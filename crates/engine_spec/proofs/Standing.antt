@@ -9,10 +9,10 @@ use native.Mathlib.Omega.{arith}
 use lib.Dec.{T, T-not}
 use lib.Ieee.{Float, lt}
 use lib.Ieee.Scale.{finite}
-use Rattle.matcher_picks.specs.declared.candidates.Candidate.{Candidate}
-use Rattle.matcher.specs.Index.{Matcher}
-use Rattle.matcher.specs.Search.{wholeSearch}
-use Rattle.matcher_laws.proofs.ResultLaws.{whole-apart}
+use Rattle.matcher_spec.specs.declared.types.Candidate.{Candidate}
+use Rattle.matcher_spec.specs.Index.{Matcher}
+use Rattle.matcher_spec.specs.Search.{wholeSearch}
+use Rattle.matcher_spec.proofs.ResultLaws.{whole-apart}
 use Rattle.engine_spec.specs.Thresholds.{rereadMs}
 use Rattle.engine_spec.specs.Windows.{Window, indexed, query, endpointOf, duration, _after_, acceptsTimeline, jumpsFrom, rereadsFrom, jumps, rereads}
 use Rattle.engine_spec.specs.Refusals.{Submission}

@@ -7,7 +7,7 @@ use native.Mathlib.Nat.{lt-irrefl}
 use lib.Dec.{T}
 use lib.ListN.{length}
 use lib.Ieee.Scale.{finite}
-use Rattle.matcher.specs.Index.{Matcher}
+use Rattle.matcher_spec.specs.Index.{Matcher}
 use Rattle.engine_spec.specs.Windows.{Window, rereads}
 use Rattle.engine_spec.specs.Refusals.{Submission, refuses, handedRefusal}
 use Rattle.engine_spec.specs.Locking.{Reached}

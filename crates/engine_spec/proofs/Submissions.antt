@@ -4,7 +4,7 @@ use mathlib.Core.List.{List, [], _∷_}
 use mathlib.Core.Path.{_≡_, refl, sym, ap, ap₂, _∙_, subst}
 use lib.Dec.{T}
 use lib.Ieee.Scale.{finite}
-use Rattle.matcher.specs.Index.{Matcher}
+use Rattle.matcher_spec.specs.Index.{Matcher}
 use Rattle.engine_spec.specs.Windows.{Window, endpointOf, rereads}
 use Rattle.engine_spec.specs.Refusals.{Submission, numberOf, refuses, handedRefusal, submissionRefusal}
 use Rattle.engine_spec.specs.Opening.{freshEngine}

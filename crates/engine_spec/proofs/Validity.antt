@@ -9,16 +9,16 @@ use lib.Count.{trailingZeros}
 use lib.ListN.{length}
 use lib.Ieee.{Float, inf, binary64, le, lt, eq, neg, add, sum, ofBits, ofFields, odd, round, units, size, span, climb}
 use lib.Ieee.Scale.{finite}
-use Rattle.numbers.specs.Arithmetic.{_⊕_, _⊖_, zero⁺, absolute, atLeast}
-use Rattle.number_laws.specs.Values.{AtMost}
-use Rattle.number_laws.proofs.Order.{at-most-finite}
-use Rattle.number_laws.proofs.Sums.{add-at-most, sub-at-most}
-use Rattle.matcher_picks.specs.Peaks.{most}
-use Rattle.matcher_picks.specs.declared.candidates.Candidate.{Candidate}
-use Rattle.matcher.specs.Index.{Matcher}
-use Rattle.matcher.specs.Search.{wholeSearch, localSearch}
-use Rattle.matcher_laws.specs.SoundSearch.{SoundResult}
-use Rattle.matcher_laws.proofs.Bounds.{within-at-most}
+use Rattle.numbers_spec.specs.Arithmetic.{_⊕_, _⊖_, zero⁺, absolute, atLeast}
+use Rattle.numbers_spec.specs.Values.{AtMost}
+use Rattle.numbers_spec.proofs.Order.{at-most-finite}
+use Rattle.numbers_spec.proofs.Sums.{add-at-most, sub-at-most}
+use Rattle.matcher_spec.specs.Peaks.{most}
+use Rattle.matcher_spec.specs.declared.types.Candidate.{Candidate}
+use Rattle.matcher_spec.specs.Index.{Matcher}
+use Rattle.matcher_spec.specs.Search.{wholeSearch, localSearch}
+use Rattle.matcher_spec.specs.SoundSearch.{SoundResult}
+use Rattle.matcher_spec.proofs.Bounds.{within-at-most}
 use Rattle.engine_spec.specs.Limits.{farthestMs, trackMost}
 use Rattle.engine_spec.specs.Thresholds.{samePlaceMs, supportCorrelation, supportRecent}
 use Rattle.engine_spec.specs.Windows.{Window, indexed, query, endpointOf, evidence, jumps, _after_}

@@ -5,7 +5,7 @@ use mathlib.Core.Path.{_≡_}
 use lib.Dec.{T, ltb}
 use lib.ListN.{getD}
 use lib.Ieee.{Float, le}
-use Rattle.numbers.specs.Arithmetic.{_⊖_, zero⁺}
+use Rattle.numbers_spec.specs.Arithmetic.{_⊖_, zero⁺}
 use Rattle.engine_spec.specs.Thresholds.{coastMostMs, passingCorrelation, passingMargin, passingHalf, chainMs, chainRecent}
 use Rattle.engine_spec.specs.Windows.{Window, evidence, endpointOf, jumpsFrom, _after_}
 use Rattle.engine_spec.specs.Refusals.{Submission}

@@ -4,10 +4,10 @@ use mathlib.Core.Bool.{true, false}
 use mathlib.Core.Path.{_≡_}
 use lib.IntN.{pos}
 use lib.Ieee.{Float, fin, lt}
-use Rattle.numbers.specs.Arithmetic.{_⊖_, zero⁺}
-use Rattle.number_laws.specs.Figures.{P7, P8, P9, P10}
-use Rattle.matcher_bands.specs.Centring.{radius}
-use Rattle.matcher_laws.specs.Figures.{twenty, P3, P5, P11, P12}
+use Rattle.numbers_spec.specs.Arithmetic.{_⊖_, zero⁺}
+use Rattle.numbers_spec.specs.Figures.{P7, P8, P9, P10}
+use Rattle.matcher_spec.specs.Centring.{radius}
+use Rattle.matcher_spec.specs.Figures.{twenty, P3, P5, P11, P12}
 use Rattle.engine_spec.specs.Windows.{Window, start, endpointOf, evidence, acceptsTimeline, jumpsFrom}
 use Rattle.engine_spec.specs.Refusals.{Submission, refuses, submissionRefusal}
 use Rattle.engine_spec.specs.Submitting.{submit}

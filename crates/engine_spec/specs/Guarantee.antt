@@ -7,12 +7,12 @@ use lib.Dec.{T}
 use lib.ListN.{length, getD}
 use lib.Ieee.{Float, lt}
 use lib.Ieee.Scale.{finite}
-use Rattle.numbers.specs.Arithmetic.{_⊖_, zero⁺, absolute}
-use Rattle.matcher_picks.specs.Candidates.{apartMs, marginOf}
-use Rattle.matcher_picks.specs.declared.candidates.Candidate.{Candidate}
-use Rattle.matcher.specs.Index.{Matcher}
-use Rattle.matcher.specs.Search.{wholeSearch}
-use Rattle.matcher_laws.specs.Words.{Every, F32}
+use Rattle.numbers_spec.specs.Arithmetic.{_⊖_, zero⁺, absolute}
+use Rattle.matcher_spec.specs.Candidates.{apartMs, marginOf}
+use Rattle.matcher_spec.specs.declared.types.Candidate.{Candidate}
+use Rattle.matcher_spec.specs.Index.{Matcher}
+use Rattle.matcher_spec.specs.Search.{wholeSearch}
+use Rattle.matcher_spec.specs.Words.{Every, F32}
 use Rattle.engine_spec.specs.Windows.{Soundtrack, Index, Window, indexed, query, endpointOf, rereads}
 use Rattle.engine_spec.specs.Refusals.{Submission, refuses, indexFits, handedRefusal}
 use Rattle.engine_spec.specs.Opening.{blankCandidate, blankSnapshot, opening, openedSettings, matcherOfFilm}

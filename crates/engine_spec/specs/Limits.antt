@@ -1,7 +1,7 @@
 -- The ranges that document 01 sets, each under one name. Definitions only.
 use Prim.Native.Nat.{ℕ}
 use lib.Ieee.{Float, binary64, ofBits}
-use Rattle.numbers.specs.Arithmetic.{one}
+use Rattle.numbers_spec.specs.Arithmetic.{one}
 
 -- A hop from 1 to 1,000.
 abbrev pub hopLeast : Float

@@ -2,11 +2,11 @@
 use mathlib.Core.Bool.{Bool, true, false, cond, not, _&&_, _||_}
 use mathlib.Core.List.{List, [], _∷_}
 use lib.Ieee.{Float, isNan, le, lt}
-use Rattle.numbers.specs.Arithmetic.{_⊖_, absolute, atMost}
-use Rattle.matcher.specs.Index.{Matcher}
-use Rattle.matcher.specs.Search.{wholeSearch}
-use Rattle.matcher_picks.specs.Candidates.{marginOf}
-use Rattle.matcher_picks.specs.declared.candidates.Candidate.{Candidate}
+use Rattle.numbers_spec.specs.Arithmetic.{_⊖_, absolute, atMost}
+use Rattle.matcher_spec.specs.Index.{Matcher}
+use Rattle.matcher_spec.specs.Search.{wholeSearch}
+use Rattle.matcher_spec.specs.Candidates.{marginOf}
+use Rattle.matcher_spec.specs.declared.types.Candidate.{Candidate}
 use Rattle.engine_spec.specs.Thresholds.{samePlaceMs, supportedIntervalMs, searchIntervalMs, passingCorrelation, passingMargin, passingHalf, staleMs, chainMs, chainRecent}
 use Rattle.engine_spec.specs.Windows.{Window, query, endpointOf, evidence, _after_}
 use Rattle.engine_spec.specs.Tracking.{samePlace, Tracked, tracked}

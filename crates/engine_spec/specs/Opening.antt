@@ -2,9 +2,9 @@
 use mathlib.Core.Bool.{Bool, true, false, cond, not, _&&_}
 use lib.ListN.{length, getD, replicate}
 use lib.Ieee.{Float, nan, inf, binary64, ofBits}
-use Rattle.numbers.specs.Arithmetic.{zero⁺}
-use Rattle.matcher_picks.specs.Peaks.{most}
-use Rattle.matcher.specs.Index.{Matcher, acceptsReference, matcherOf, filled}
+use Rattle.numbers_spec.specs.Arithmetic.{zero⁺}
+use Rattle.matcher_spec.specs.Peaks.{most}
+use Rattle.matcher_spec.specs.Index.{Matcher, acceptsReference, matcherOf, filled}
 use Rattle.engine_spec.specs.Windows.{Soundtrack, Index}
 use Rattle.engine_spec.specs.Refusals.{refuses, openingRefusal}
 use Rattle.engine_spec.specs.declared.types.Configuration.{Configuration}

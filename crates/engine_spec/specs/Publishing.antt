@@ -4,13 +4,13 @@ use mathlib.Core.Bool.{Bool, true, false, cond, _&&_}
 use mathlib.Core.List.{List, [], _∷_, _++_}
 use lib.ListN.{length, replicate}
 use lib.Ieee.{Float, lt, eq}
-use Rattle.numbers.specs.Arithmetic.{_⊕_, _⊖_, _⊗_, _⊘_, zero⁺, one, atLeast, countOf}
-use Rattle.number_laws.specs.Values.{magnitude}
-use Rattle.matcher_bands.specs.Centring.{contextFrames}
-use Rattle.matcher_picks.specs.Peaks.{most}
-use Rattle.matcher_picks.specs.Candidates.{marginOf}
-use Rattle.matcher_picks.specs.declared.candidates.Candidate.{Candidate}
-use Rattle.matcher.specs.Index.{Matcher}
+use Rattle.numbers_spec.specs.Arithmetic.{_⊕_, _⊖_, _⊗_, _⊘_, zero⁺, one, atLeast, countOf}
+use Rattle.numbers_spec.specs.Values.{magnitude}
+use Rattle.matcher_spec.specs.Centring.{contextFrames}
+use Rattle.matcher_spec.specs.Peaks.{most}
+use Rattle.matcher_spec.specs.Candidates.{marginOf}
+use Rattle.matcher_spec.specs.declared.types.Candidate.{Candidate}
+use Rattle.matcher_spec.specs.Index.{Matcher}
 use Rattle.engine_spec.specs.Thresholds.{coastMostMs, passingMargin, trimmedMs}
 use Rattle.engine_spec.specs.Windows.{Window, indexed, endpointOf, duration, evidence, _after_}
 use Rattle.engine_spec.specs.Opening.{blankCandidate}

@@ -6,12 +6,11 @@ use mathlib.Core.Path.{_≡_}
 use lib.Dec.{T}
 use lib.ListN.{length, getD}
 use lib.Ieee.{Float}
-use Rattle.matcher_laws.specs.Words.{Every, F32}
-use Rattle.engine_spec.specs.Windows.{Soundtrack, Index}
+use Rattle.matcher_spec.specs.Words.{Every, F32}
+use Rattle.engine_spec.specs.Windows.{Soundtrack, Index, indexed}
 use Rattle.engine_spec.specs.Refusals.{Submission, refuses, handedRefusal, submissionRefusal}
 use Rattle.engine_spec.specs.Opening.{opening, openedIndex, openedSettings, matcherOfFilm}
 use Rattle.engine_spec.specs.Guarantee.{answersTo, engineAfter, AllHanded, FilledWith, Promised, unanswered}
-use Rattle.engine_spec.specs.Windows.{indexed}
 use Rattle.engine_spec.specs.declared.types.Configuration.{Configuration}
 use Rattle.engine_spec.specs.declared.types.Engine.{Engine}
 use Rattle.engine_spec.specs.declared.types.Opened.{Opened}

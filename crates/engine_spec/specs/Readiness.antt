@@ -3,10 +3,10 @@ use Prim.Native.Nat.{ℕ, zero, suc}
 use mathlib.Core.Bool.{Bool, true, false, cond, not}
 use lib.ListN.{length, getD}
 use lib.Ieee.{Float, nan, inf, lt, le}
-use Rattle.numbers.specs.Arithmetic.{_⊖_, _⊗_, _⊘_, zero⁺, atMost, real}
-use Rattle.numbers.specs.Exponential.{tenTo}
-use Rattle.numbers.specs.Logarithm.{log10Of}
-use Rattle.matcher_bands.specs.Rows.{sumTo}
+use Rattle.numbers_spec.specs.Arithmetic.{_⊖_, _⊗_, _⊘_, zero⁺, atMost, real}
+use Rattle.numbers_spec.specs.Exponential.{tenTo}
+use Rattle.numbers_spec.specs.Logarithm.{log10Of}
+use Rattle.numbers_spec.specs.Rows.{sumTo}
 use Rattle.engine_spec.specs.Thresholds.{ten}
 use Rattle.engine_spec.specs.Windows.{Window, indexed, acceptsTimeline, duration}
 use Rattle.engine_spec.specs.declared.types.Configuration.{Configuration}

@@ -6,11 +6,11 @@ use lib.Dec.{leb, ltb, eqb}
 use lib.ListN.{length, getD}
 use lib.Ieee.{Float, nan, inf, lt, le, eq, neg}
 use lib.Ieee.Scale.{finite}
-use Rattle.numbers.specs.Arithmetic.{zero⁺, one}
-use Rattle.matcher_bands.specs.Rows.{allTo}
-use Rattle.matcher_bands.specs.Timeline.{validValues}
-use Rattle.matcher_bands.specs.Energy.{reduction}
-use Rattle.matcher_picks.specs.Peaks.{most}
+use Rattle.numbers_spec.specs.Arithmetic.{zero⁺, one}
+use Rattle.numbers_spec.specs.Rows.{allTo}
+use Rattle.matcher_spec.specs.Timeline.{validValues}
+use Rattle.matcher_spec.specs.Energy.{reduction}
+use Rattle.matcher_spec.specs.Peaks.{most}
 use Rattle.engine_spec.specs.Limits.{hopLeast, hopMost, framesMost, windowMost, bandsMost, farthestMs, trackMost}
 use Rattle.engine_spec.specs.Windows.{Soundtrack, Index, Window}
 use Rattle.engine_spec.specs.declared.types.RecordedMs.{RecordedMs}

@@ -3,7 +3,7 @@ use Prim.Native.Nat.{ℕ, _+_, _*_, _/_, _≤_, _<_}
 use mathlib.Core.Bool.{true}
 use mathlib.Core.Path.{_≡_}
 use lib.ListN.{length}
-use Rattle.matcher_bands.specs.Centring.{wideHop}
+use Rattle.matcher_spec.specs.Centring.{wideHop}
 use Rattle.engine_spec.specs.Windows.{Index, Window}
 use Rattle.engine_spec.specs.Refusals.{bothOrNeither}
 use Rattle.engine_spec.specs.declared.types.Settings.{Settings}

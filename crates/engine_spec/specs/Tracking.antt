@@ -2,11 +2,11 @@
 use mathlib.Core.Bool.{Bool, true, false, cond, _&&_}
 use mathlib.Core.List.{List, [], _∷_}
 use lib.Ieee.{Float, le, neg}
-use Rattle.numbers.specs.Arithmetic.{_⊕_, _⊖_, _⊗_, _⊘_, zero⁺, one, absolute, atLeast}
-use Rattle.numbers.specs.Exponential.{expOf}
-use Rattle.matcher.specs.Index.{Matcher}
-use Rattle.matcher.specs.Search.{localSearch}
-use Rattle.matcher_picks.specs.declared.candidates.Candidate.{Candidate}
+use Rattle.numbers_spec.specs.Arithmetic.{_⊕_, _⊖_, _⊗_, _⊘_, zero⁺, one, absolute, atLeast}
+use Rattle.numbers_spec.specs.Exponential.{expOf}
+use Rattle.matcher_spec.specs.Index.{Matcher}
+use Rattle.matcher_spec.specs.Search.{localSearch}
+use Rattle.matcher_spec.specs.declared.types.Candidate.{Candidate}
 use Rattle.engine_spec.specs.Thresholds.{coastMostMs, localMs, samePlaceMs, supportCorrelation, supportRecent, gainMs}
 use Rattle.engine_spec.specs.Windows.{Window, query, evidence, _after_}
 use Rattle.engine_spec.specs.declared.types.RecordedMs.{RecordedMs}

@@ -5,12 +5,12 @@ use mathlib.Core.List.{List}
 use lib.Dec.{eqb}
 use lib.ListN.{length, getD}
 use lib.Ieee.{Float, nan, lt}
-use Rattle.numbers.specs.Arithmetic.{_⊕_, _⊖_, _⊗_, two}
-use Rattle.matcher_bands.specs.Centring.{contextFrames}
-use Rattle.matcher_bands.specs.Timeline.{accepts}
-use Rattle.matcher.specs.Index.{Matcher, lentMatcher}
-use Rattle.matcher.specs.declared.index.Reference.{Reference}
-use Rattle.matcher.specs.Search as search
+use Rattle.numbers_spec.specs.Arithmetic.{_⊕_, _⊖_, _⊗_, two}
+use Rattle.matcher_spec.specs.Centring.{contextFrames}
+use Rattle.matcher_spec.specs.Timeline.{accepts}
+use Rattle.matcher_spec.specs.Index.{Matcher, lentMatcher}
+use Rattle.matcher_spec.specs.declared.types.Reference.{Reference}
+use Rattle.matcher_spec.specs.Search as search
 use Rattle.engine_spec.specs.Thresholds.{rereadMs}
 use Rattle.engine_spec.specs.declared.types.RecordedMs.{RecordedMs}
 use Rattle.engine_spec.specs.declared.types.Settings.{Settings}

@@ -16,23 +16,23 @@ use lib.Ieee.Scale.{finite}
 use lib.ListN.{length, length-map, take, drop, length-append, length-take, length-drop, take-append-drop}
 use lib.Seq.{take-at, drop-at, take-take, take-append-le, drop-append-le, drop-append-add, drop-drop, length-take-le, take-append-seam}
 use borrow.Rule.Slice.PartMut.{putMid, postOf}
-use Rattle.matcher_bands.specs.Centring.{centred, centredAt, logs, radius}
-use Rattle.numbers.specs.Arithmetic.{atMost, countOf, real}
-use Rattle.number_laws.proofs.CountLaws.{count-monotone, count-at-most}
-use Rattle.number_laws.proofs.Mantissa.{whole-finite}
-use Rattle.number_laws.proofs.Order.{lt→le, le-self}
-use Rattle.matcher_picks.specs.Candidates.{crowded, independent, independentFrom, insert, sortInto, sorted, listed, resultOf}
-use Rattle.matcher_bands.specs.Energy.{Bands, allEnergies, averages, allAverages, bandsOf}
-use Rattle.matcher.specs.Index.{Matcher, acceptsReference, lentBands}
-use Rattle.matcher_bands.specs.Rows.{row, rows}
-use Rattle.matcher.specs.Search.{FilledQuery, QueryIn, Window, candidateIn, candidatesAt, localFound, localHigh, localLow, localSearch, queryOf, queryStart, queryValues, searchable, wholeFound, wholeSearch}
-use Rattle.matcher_bands.specs.Timeline.{accepts, regular, validValues}
-use Rattle.matcher_picks.specs.declared.candidates.Candidate.{Candidate}
-use Rattle.matcher_picks.specs.declared.candidates.MatchResult.{MatchResult}
-use Rattle.matcher.specs.declared.index.Reference.{Reference}
+use Rattle.matcher_spec.specs.Centring.{centred, centredAt, logs, radius}
+use Rattle.numbers_spec.specs.Arithmetic.{atMost, countOf, real}
+use Rattle.numbers_spec.proofs.CountLaws.{count-monotone, count-at-most}
+use Rattle.numbers_spec.proofs.Mantissa.{whole-finite}
+use Rattle.numbers_spec.proofs.Order.{lt→le, le-self}
+use Rattle.matcher_spec.specs.Candidates.{crowded, independent, independentFrom, insert, sortInto, sorted, listed, resultOf}
+use Rattle.matcher_spec.specs.Energy.{Bands, allEnergies, averages, allAverages, bandsOf}
+use Rattle.matcher_spec.specs.Index.{Matcher, acceptsReference, lentBands}
+use Rattle.numbers_spec.specs.Rows.{row, rows}
+use Rattle.matcher_spec.specs.Search.{FilledQuery, QueryIn, Window, candidateIn, candidatesAt, localFound, localHigh, localLow, localSearch, queryOf, queryStart, queryValues, searchable, wholeFound, wholeSearch}
+use Rattle.matcher_spec.specs.Timeline.{accepts, regular, validValues}
+use Rattle.matcher_spec.specs.declared.types.Candidate.{Candidate}
+use Rattle.matcher_spec.specs.declared.types.MatchResult.{MatchResult}
+use Rattle.matcher_spec.specs.declared.types.Reference.{Reference}
 use Rattle.matcher_picks.specs.declared.peaks.Picked.{Picked}
 use Rattle.matcher_picks.proofs.peaks.Picked.{the-type}
-use Rattle.matcher_bands.proofs.RowLaws.{row-within, length-tabulate}
+use Rattle.numbers_spec.proofs.RowLaws.{row-within, length-tabulate}
 
 -- one of several rows fits where all do
 pub one-row : {bands l : ℕ} (n : ℕ) → 0 < bands → bands * n ≤ l → n ≤ l

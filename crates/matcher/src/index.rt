@@ -4,23 +4,15 @@ ghost use lib.ListN.{drop, length};
 ghost use mathlib.Core.Bool.{true};
 ghost use mathlib.Core.List.{_++_};
 ghost use mathlib.Core.Path.{_≡_};
-ghost use Rattle.matcher_bands.specs.Energy.{allAverages, allEnergies};
-ghost use Rattle.matcher.specs.Index.{acceptsReference, filled, fineValues, matcherOf};
-ghost use Rattle.matcher_bands.specs.Centring.{wideHop};
+ghost use Rattle.matcher_spec.specs.Energy.{allAverages, allEnergies};
+ghost use Rattle.matcher_spec.specs.Index.{acceptsReference, filled, fineValues, matcherOf};
+ghost use Rattle.matcher_spec.specs.Centring.{wideHop};
 use matcher_bands::centring::centre_bands;
 use matcher_bands::centring::radius;
 use matcher_bands::energy::fill_energies;
 use matcher_bands::energy::reduce_bands;
 use matcher_bands::timeline::are_valid;
 use matcher_bands::timeline::is_regular;
-
-// What a search knows of its reference besides the buffers.
-pub struct Reference {
-    pub bands: usize,
-    pub frames: usize,
-    pub start_ms: f64,
-    pub hop_ms: f64,
-}
 
 // Whether the reference is one that can be searched.
 pub fn accepts_reference(times: &[f64], values: &[f32], bands: usize, hop: f64) -> bool

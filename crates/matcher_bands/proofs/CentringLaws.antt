@@ -9,14 +9,12 @@ use lib.Ieee.{Float, nan, binary32, sub}
 use lib.ListN.{length, getD, take, drop, length-take, length-drop}
 use lib.Seq.{length-take-le, take-append-le, take-append-add, getD-append-add, getD-take, getD-drop, drop-drop, ext-getD}
 use borrow.Rule.Slice.PartMut.{putMid, postOf, same-len-mid, mid-len, drop-put}
-use Rattle.matcher_bands.specs.Rows.{tabulate, rows}
-use Rattle.matcher_bands.specs.Centring.{logs, sumOf, meanAround, centredAt}
-use Rattle.numbers.specs.Arithmetic.{_⊕_, _⊖_, _⊗_, _⊘_, real}
-use Rattle.numbers.specs.Logarithm.{log1pOf}
-use Rattle.numbers.specs.Narrow.{nearestF32}
-use Rattle.number_rows.specs.Logs.{logsOf}
-use Rattle.number_rows.proofs.Rows.{length-logs, log-at}
-use Rattle.matcher_bands.proofs.RowLaws.{length-tabulate, getD-tabulate, Filled, next-row}
+use Rattle.numbers_spec.specs.Rows.{tabulate, rows, logsOf}
+use Rattle.matcher_spec.specs.Centring.{logs, sumOf, meanAround, centredAt}
+use Rattle.numbers_spec.specs.Arithmetic.{_⊕_, _⊖_, _⊗_, _⊘_, real}
+use Rattle.numbers_spec.specs.Logarithm.{log1pOf}
+use Rattle.numbers_spec.specs.Narrow.{nearestF32}
+use Rattle.numbers_spec.proofs.RowLaws.{length-logs, log-at, length-tabulate, getD-tabulate, Filled, next-row}
 
 module _ {A : Type 0} (f : ℕ → A) where
   -- what lies behind the filled part is still as it was

@@ -8,9 +8,9 @@ use lib.ListN.{length, getD, take, drop, length-take, length-drop, take-append-d
 use lib.Seq.{take-append-le, drop-append-le, getD-take, getD-drop}
 use lib.Ieee.{Float, nan}
 use borrow.Rule.Slice.PartMut.{putMid}
-use Rattle.matcher_bands.specs.Rows.{rows, row}
-use Rattle.matcher_bands.specs.Energy.{energies, average, averages}
-use Rattle.matcher_bands.proofs.RowLaws.{length-tabulate, next-row, Rowed, rowed-none, rowed-more, rowed-length}
+use Rattle.numbers_spec.specs.Rows.{rows, row}
+use Rattle.matcher_spec.specs.Energy.{energies, average, averages}
+use Rattle.numbers_spec.proofs.RowLaws.{length-tabulate, next-row, Rowed, rowed-none, rowed-more, rowed-length}
 
 -- a part within the list has its length
 pub length-part : (from n : ℕ) (v : List Float) → from + n ≤ length v → length (take n (drop from v)) ≡ n

@@ -1,4 +1,2 @@
 pub mod CentringLaws
 pub mod EnergyLaws
-pub mod RadiusLaw
-pub mod RowLaws

@@ -5,17 +5,17 @@ ghost use lib.Ieee.{nan};
 ghost use lib.ListN.{drop, getD, length, take};
 ghost use mathlib.Core.List.{_++_};
 ghost use mathlib.Core.Path.{_≡_};
-ghost use Rattle.matcher_bands.specs.Centring.{centred, centredAt, contextFrames, meanAround, radius, sumOf};
-ghost use Rattle.matcher_bands.specs.Rows.{row, rows, tabulate};
+ghost use Rattle.matcher_spec.specs.Centring.{centred, centredAt, contextFrames, meanAround, radius, sumOf};
+ghost use Rattle.numbers_spec.specs.Rows.{row, rows, tabulate};
 use crate::counts::least;
 use crate::counts::less;
-use number_rows::ln_1p_row::ln_1p_row;
 use numbers::float::at_least;
 use numbers::float::real;
 use numbers::float::widen;
 use numbers::narrow::narrow;
 use numbers::whole::count;
 use numbers::whole::round;
+use numbers_rows::ln_1p_row::ln_1p_row;
 
 // 250 ms in frames, rounded: 0 at a hop above 500.
 pub fn context_frames(hop: f64) -> f64

@@ -1,10 +1,10 @@
 // Energies of bands, and bands averaged by fours.
-ghost use Prim.Native.Nat.{_+_, _-_, _*_, _/_, _<_, _≤_};
+ghost use Prim.Native.Nat.{_+_, _*_, _/_, _<_, _≤_};
 ghost use lib.ListN.{drop, length, take};
 ghost use mathlib.Core.List.{[], _++_};
 ghost use mathlib.Core.Path.{_≡_};
-ghost use Rattle.matcher_bands.specs.Energy.{allAverages, allEnergies, average, averages, bandsOf, energies, totals};
-ghost use Rattle.matcher_bands.specs.Rows.{row};
+ghost use Rattle.matcher_spec.specs.Energy.{allAverages, allEnergies, average, averages, bandsOf, energies, totals};
+ghost use Rattle.numbers_spec.specs.Rows.{row};
 use numbers::float::widen;
 
 // Fills the row with the prefix sums of the squares: one more than there are values.

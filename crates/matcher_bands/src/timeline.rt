@@ -2,8 +2,8 @@
 ghost use Prim.Native.Nat.{ℕ, suc, _-_, _<_};
 ghost use lib.ListN.{length};
 ghost use mathlib.Core.Path.{_≡_};
-ghost use Rattle.matcher_bands.specs.Rows.{allTo};
-ghost use Rattle.matcher_bands.specs.Timeline.{accepts, near, onTime, regular, validValue, validValues};
+ghost use Rattle.numbers_spec.specs.Rows.{allTo};
+ghost use Rattle.matcher_spec.specs.Timeline.{accepts, near, onTime, regular, validValue, validValues};
 use numbers::float::abs;
 use numbers::float::is_finite;
 use numbers::float::real;

@@ -2,23 +2,10 @@
 ghost use Prim.Native.Nat.{_+_, _<_, _≤_};
 ghost use mathlib.Core.List.{[], _∷_, _++_};
 ghost use mathlib.Core.Path.{_≡_};
-ghost use Rattle.matcher_picks.specs.Candidates.{blank, crowded, independent, insert, listed, marginOf, resultOf};
+ghost use Rattle.matcher_spec.specs.Candidates.{blank, crowded, independent, insert, listed, marginOf, resultOf};
+use matcher_spec::types::Candidate;
+use matcher_spec::types::MatchResult;
 use numbers::float::abs;
-
-// A candidate maps capture time to reference time by adding `offset_ms`.
-pub struct Candidate {
-    pub offset_ms: f64,
-    pub score: f64,
-    pub first_half_score: f64,
-    pub second_half_score: f64,
-    pub recent_score: f64,
-}
-
-// The first `count` candidates, the best first.
-pub struct MatchResult {
-    pub candidates: [Candidate; 8],
-    pub count: usize,
-}
 
 // What stands behind the last candidate.
 fn blank() -> Candidate

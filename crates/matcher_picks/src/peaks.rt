@@ -3,7 +3,7 @@ ghost use Prim.Native.Nat.{ℕ, _<_, _≤_};
 ghost use lib.ListN.{getD, length, take};
 ghost use mathlib.Core.Bool.{cond};
 ghost use mathlib.Core.Path.{_≡_};
-ghost use Rattle.matcher_picks.specs.Peaks.{apart, bestFree, better, firstMaximum, nearTo, peaks};
+ghost use Rattle.matcher_spec.specs.Peaks.{apart, bestFree, better, firstMaximum, nearTo, peaks};
 
 // The first of the largest scores.
 pub fn first_maximum(scores: &[f64]) -> usize

@@ -5,7 +5,7 @@ use Prim.Native.Nat.{ℕ, _+_, _*_, _/_, _≤_, _<_}
 use native.Mathlib.Nat.{mul-le-mul, mul-le-mul-right}
 use native.Mathlib.Omega.{arith}
 use borrow.Author.Tests.{ltb-true, leb-true}
-use Rattle.matcher_bands.specs.Centring.{wideHop}
+use Rattle.matcher_spec.specs.Centring.{wideHop}
 use Rattle.matcher.proofs.SearchLaws.{and-left, and-right}
 use Rattle.matcher_replay.specs.Cases.{isSmall}
 use Rattle.matcher_replay.specs.declared.case.Case.{Case}

@@ -2,7 +2,7 @@
 use mathlib.Core.Bool.{Bool, _&&_}
 use lib.Dec.{leb, ltb}
 use lib.Ieee.{le}
-use Rattle.numbers.specs.Arithmetic.{one}
+use Rattle.numbers_spec.specs.Arithmetic.{one}
 use Rattle.matcher_replay.specs.declared.case.Case.{Case}
 
 -- At least one of everything, and no more than the arrays hold.

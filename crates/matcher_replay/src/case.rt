@@ -6,11 +6,11 @@ ghost use mathlib.Core.Path.{_≡_};
 ghost use Rattle.matcher_replay.specs.Cases.{isSmall};
 use crate::digest;
 use crate::sound;
-use matcher::index::Reference;
 use matcher::index::fill_index;
 use matcher::search::local_search;
 use matcher::search::whole_search;
-use matcher_picks::candidates::MatchResult;
+use matcher_spec::types::MatchResult;
+use matcher_spec::types::Reference;
 
 // The most bands and frames of a case.
 const BANDS: usize = 4;

@@ -3,18 +3,16 @@ use mathlib.Core.Path.{_≡_, sym, ap, _∙_}
 use Prim.Native.Nat.{ℕ, _+_, _-_, _<_, _≤_}
 use native.Mathlib.Nat.{add-assoc}
 use native.Mathlib.Omega.{arith}
-use mathlib.Core.List.{List, []}
+use mathlib.Core.List.{List}
 use lib.ListN.{length, getD, take, drop}
 use lib.Seq.{getD-take, getD-drop, drop-drop, drop-at}
 use lib.Ieee.{Float, nan}
 use borrow.Rule.Slice.PartMut.{putMid, mid-len}
-use Rattle.numbers.specs.Arithmetic.{_⊕_, _⊖_, _⊗_, _⊘_, atLeast}
-use Rattle.number_rows.proofs.Rows.{root-at}
-use Rattle.number_rows.specs.Rows.{rootsOf}
-use Rattle.numbers.specs.Root.{rootOf}
-use Rattle.matcher_bands.specs.Rows.{tabulate}
-use Rattle.matcher_bands.proofs.RowLaws.{Filling, length-tabulate, tabulate-ext}
-use Rattle.matcher_scores.specs.Scores.{dot, bandTerm}
+use Rattle.numbers_spec.specs.Arithmetic.{_⊕_, _⊖_, _⊗_, _⊘_, atLeast}
+use Rattle.numbers_spec.proofs.RowLaws.{root-at, Filling, length-tabulate, tabulate-ext}
+use Rattle.numbers_spec.specs.Rows.{rootsOf, tabulate}
+use Rattle.numbers_spec.specs.Root.{rootOf}
+use Rattle.matcher_spec.specs.Scores.{dot, bandTerm}
 use Rattle.matcher_scores.proofs.PartLaws.{rest, row-at, row-length, filling-part}
 
 -- ---- an element

@@ -7,8 +7,8 @@ use mathlib.Core.List.{List, [], _∷_, _++_, append-assoc, append-nil}
 use lib.ListN.{length, getD, take, drop, length-drop}
 use lib.Seq.{drop-at, take-all}
 use borrow.Rule.Slice.PartMut.{putMid}
-use Rattle.matcher_bands.specs.Rows.{tabulate}
-use Rattle.matcher_bands.proofs.RowLaws.{length-tabulate, getD-tabulate, tabulate-ext, put-next, filled-length, Filling, filling-all}
+use Rattle.numbers_spec.specs.Rows.{tabulate}
+use Rattle.numbers_spec.proofs.RowLaws.{length-tabulate, getD-tabulate, tabulate-ext, put-next, filled-length, Filling, filling-all}
 
 -- a list from a place on
 pub rest : {A : Type 0} (l : List A) (at : ℕ) → take (length l - at) (drop at l) ≡ drop at l

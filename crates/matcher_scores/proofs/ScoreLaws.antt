@@ -5,8 +5,8 @@ use native.Mathlib.Numerals.{add-one}
 use native.Mathlib.Omega.{arith}
 use mathlib.Core.List.{List}
 use lib.Ieee.{Float}
-use Rattle.matcher_bands.specs.Energy.{_+₃₂_}
-use Rattle.matcher_scores.specs.Scores.{product, lane, onward}
+use Rattle.matcher_spec.specs.Energy.{_+₃₂_}
+use Rattle.matcher_spec.specs.Scores.{product, lane, onward}
 
 module _ (l r : List Float) where
   -- a lane after one more chunk

@@ -6,10 +6,10 @@ use mathlib.Core.List.{List}
 use lib.ListN.{length, getD, take, drop, length-take, length-drop}
 use lib.Ieee.{Float, nan, binary32, mul}
 use lib.Seq.{getD-take, getD-drop, drop-drop}
-use Rattle.matcher_bands.specs.Rows.{tabulate}
-use Rattle.matcher_bands.specs.Energy.{zeroF32, _+₃₂_}
-use Rattle.matcher_bands.proofs.RowLaws.{tabulate-ext}
-use Rattle.matcher_scores.specs.Scores.{product, lanes, onward, dot}
+use Rattle.numbers_spec.specs.Rows.{tabulate}
+use Rattle.matcher_spec.specs.Energy.{zeroF32, _+₃₂_}
+use Rattle.numbers_spec.proofs.RowLaws.{tabulate-ext}
+use Rattle.matcher_spec.specs.Scores.{product, lanes, onward, dot}
 use Rattle.matcher_scores.specs.Tiles.{laneAt}
 use Rattle.matcher_scores.proofs.ScoreLaws.{lane-more, onward-none, onward-more}
 use Rattle.matcher_scores.proofs.PartLaws.{rest, row-at, row-then}

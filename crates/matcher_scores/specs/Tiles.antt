@@ -3,7 +3,7 @@ use Prim.Native.Nat.{ℕ}
 use mathlib.Core.List.{List}
 use lib.ListN.{length, take, drop}
 use lib.Ieee.{Float}
-use Rattle.matcher_scores.specs.Scores.{lane}
+use Rattle.matcher_spec.specs.Scores.{lane}
 
 -- Lane j of the dot product at place p of a row, after n chunks of eight.
 abbrev pub laneAt : List Float → List Float → ℕ → ℕ → ℕ → Float

@@ -5,13 +5,13 @@ ghost use Prim.Native.Nat.{ℕ, _+_, _<_, _≤_};
 ghost use lib.Ieee.{nan};
 ghost use lib.ListN.{getD, length};
 ghost use mathlib.Core.Path.{_≡_};
-ghost use Rattle.matcher_bands.specs.Rows.{tabulate};
-ghost use Rattle.matcher_scores.specs.Scores.{bandTerm};
-ghost use Rattle.numbers.specs.Arithmetic.{_⊕_, _⊖_, _⊗_, _⊘_, atLeast};
+ghost use Rattle.numbers_spec.specs.Rows.{tabulate};
+ghost use Rattle.matcher_spec.specs.Scores.{bandTerm};
+ghost use Rattle.numbers_spec.specs.Arithmetic.{_⊕_, _⊖_, _⊗_, _⊘_, atLeast};
 use crate::tiles::dots;
-use number_rows::root_row::root_row;
 use numbers::float::at_least;
 use numbers::float::widen;
+use numbers_rows::root_row::root_row;
 
 // What stands under the root at each place: the query's energy times the reference's over `count`
 // frames.

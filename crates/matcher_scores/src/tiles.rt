@@ -4,9 +4,9 @@ ghost use Prim.Native.Nat.{ℕ, _+_, _*_, _<_, _≤_};
 ghost use lib.Ieee.{binary32, mul, nan};
 ghost use lib.ListN.{drop, getD, length, take};
 ghost use mathlib.Core.Path.{_≡_};
-ghost use Rattle.matcher_bands.specs.Energy.{_+₃₂_};
-ghost use Rattle.matcher_bands.specs.Rows.{tabulate};
-ghost use Rattle.matcher_scores.specs.Scores.{dot};
+ghost use Rattle.matcher_spec.specs.Energy.{_+₃₂_};
+ghost use Rattle.numbers_spec.specs.Rows.{tabulate};
+ghost use Rattle.matcher_spec.specs.Scores.{dot};
 ghost use Rattle.matcher_scores.specs.Tiles.{laneAt};
 use crate::scores::dot_product;
 

@@ -1,4 +1,2 @@
 -- What the proofs of the root share.
-pub mod NearRoots
-mod Closest
-pub mod Rooted
+pub mod Polished

@@ -1,7 +1,7 @@
 // E, which stands for `exp`, and 10^y: document 01's steps, each operation rounded once.
 ghost use mathlib.Core.Path.{_≡_};
-ghost use Rattle.numbers.specs.Arithmetic.{one};
-ghost use Rattle.numbers.specs.Exponential.{expOf, expSeries, tenTo, twoTo};
+ghost use Rattle.numbers_spec.specs.Arithmetic.{one};
+ghost use Rattle.numbers_spec.specs.Exponential.{expOf, expSeries, tenTo, twoTo};
 use crate::constants::HI;
 use crate::constants::LN_10;
 use crate::constants::LO;

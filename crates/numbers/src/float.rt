@@ -1,7 +1,7 @@
 // Widening, the finite tests, and what comparisons alone decide.
 ghost use mathlib.Core.Path.{_≡_};
 ghost use lib.Ieee.Scale.{finite};
-ghost use Rattle.numbers.specs.Arithmetic.{absolute, atLeast, atMost, real};
+ghost use Rattle.numbers_spec.specs.Arithmetic.{absolute, atLeast, atMost, real};
 
 // x in the wider format, which holds every f32. A NaN gives a NaN.
 pub fn widen(x: f32) -> f64

@@ -1,6 +1,6 @@
 // The square of a whole number that no u64 holds.
 ghost use Prim.Native.Nat.{_^_, _≤_};
-ghost use Rattle.numbers.specs.Root.{Squared};
+ghost use Rattle.numbers.specs.Parts.{Squared};
 
 // 2 ^ 27: a number below 2 ^ 54 in two halves.
 const HALF: u64 = 0x800_0000;

@@ -3,8 +3,8 @@
 ghost use Prim.Native.Nat.{_/_, _^_, _<_, _≤_};
 ghost use lib.Ieee.{binary64, round};
 ghost use mathlib.Core.Path.{_≡_};
-ghost use Rattle.numbers.specs.Arithmetic.{countOf};
-ghost use Rattle.numbers.specs.Whole.{halfUp, upward, wholeAbove, wholeBelow, wholeNearest};
+ghost use Rattle.numbers_spec.specs.Arithmetic.{countOf};
+ghost use Rattle.numbers_spec.specs.Whole.{halfUp, upward, wholeAbove, wholeBelow, wholeNearest};
 use crate::float::is_finite;
 use crate::parts::WHOLE;
 use crate::parts::split;

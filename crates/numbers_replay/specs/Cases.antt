@@ -5,11 +5,11 @@ use mathlib.Core.List.{List, [], _∷_}
 use lib.Dec.{eqb, ltb}
 use lib.ListN.{length, take, drop, getD}
 use lib.Ieee.{Float, binary64, ofBits, toBits}
-use Rattle.numbers.specs.Exponential.{expOf, tenTo}
-use Rattle.numbers.specs.Logarithm.{log10Of, log1pOf, logOf}
-use Rattle.numbers.specs.Narrow.{nearestF32}
-use Rattle.numbers.specs.Root.{rootOf}
-use Rattle.numbers.specs.Whole.{wholeAbove, wholeBelow, wholeNearest}
+use Rattle.numbers_spec.specs.Exponential.{expOf, tenTo}
+use Rattle.numbers_spec.specs.Logarithm.{log10Of, log1pOf, logOf}
+use Rattle.numbers_spec.specs.Narrow.{nearestF32}
+use Rattle.numbers_spec.specs.Root.{rootOf}
+use Rattle.numbers_spec.specs.Whole.{wholeAbove, wholeBelow, wholeNearest}
 use Rattle.hexadecimal.specs.declared.Word.{Word}
 use Rattle.hexadecimal.specs.declared.Word.the-variants as word
 use Rattle.numbers_replay.specs.declared.line.Function.{Function}

@@ -5,10 +5,10 @@ use mathlib.Core.Path.{_≡_, refl}
 use lib.ListN.{getD}
 use lib.Ieee.{Float, nan, ofBits}
 use mathlib.Core.List.{List}
-use Rattle.matcher_bands.specs.Rows.{sumTo}
-use Rattle.matcher_bands.proofs.RowLaws.{sum-more}
-use Rattle.numbers.specs.Arithmetic.{_⊘_}
-use Rattle.numbers.specs.Exponential.{tenTo}
+use Rattle.numbers_spec.specs.Rows.{sumTo}
+use Rattle.numbers_spec.proofs.RowLaws.{sum-more}
+use Rattle.numbers_spec.specs.Arithmetic.{_⊘_}
+use Rattle.numbers_spec.specs.Exponential.{tenTo}
 use Rattle.engine_spec.specs.Thresholds.{ten}
 use Rattle.engine_readiness.proofs.power_sum.Statement.{statement}
 use Rattle.engine_readiness.proofs.power_sum.Tie as tie

@@ -8,8 +8,8 @@ use lib.Dec.{lit≤}
 use lib.Pow.{pow-pos, pow-mono, pow-add, shl-lt}
 use lib.Count.{leadingZeros, leading-length}
 use lib.Ieee.Nearest.{closest, closest-same}
-use Rattle.numbers.specs.Narrow.{Dropped}
-use Rattle.numbers.proofs.Encode.{closest-small}
+use Rattle.numbers.specs.Parts.{Dropped}
+use Rattle.numbers_spec.proofs.Encode.{closest-small}
 
 pow-lt-back : (a b : ℕ) → 2 ^ a < 2 ^ b → a < b
 pow-lt-back a b h = lt-of-not-le (λ (g : b ≤ a). not-le-of-lt h (pow-mono g))

@@ -6,8 +6,8 @@ use native.Mathlib.Omega.{arith}
 use lib.Pow.{pow-pos}
 use lib.Ieee.{binary32, round, toBits}
 use lib.Ieee.Nearest.{closest}
-use Rattle.numbers.specs.Narrow.{Dropped}
-use Rattle.numbers.proofs.Encode.{Spread, round-bits, round-bits-over, K-le}
+use Rattle.numbers.specs.Parts.{Dropped}
+use Rattle.numbers_spec.proofs.Encode.{Spread, round-bits, round-bits-over, K-le}
 use Rattle.numbers.proofs.narrow.Drop.{kept}
 
 spread : (sig exp r : ℕ) → Dropped sig exp r → Spread binary32 (sig * 2 ^ exp) (2 ^ 1074) r

@@ -6,26 +6,14 @@ use native.Mathlib.Omega.{arith}
 use mathlib.Core.Bool.{Bool, true, false, cond}
 use lib.Dec.{T, eqb, lit≤, eqb·suc-zero}
 use lib.Pow.{pow-pos, pow-mono, pow-add, shl-lt}
-use lib.Ieee.{Float, nan, inf, fin, binary64, up, down, round, fits, neg}
+use lib.Ieee.{Float, nan, inf, fin, binary64, up, down, round, fits}
 use lib.Ieee.Fits.{round-fits, down-pos}
 use lib.Ieee.Exact.{HasValue, round-exact}
 use lib.Ieee.Nearest.{div-same}
 use Rattle.numbers.specs.Parts.{Parted}
-use Rattle.numbers.specs.Whole.{halfUp, upward, wholeNearest, wholeBelow, wholeAbove}
-use Rattle.numbers.proofs.Encode.{same-value}
-use Rattle.numbers.proofs.Value.{same-fraction}
-use Rattle.numbers.proofs.Sign.{neg-neg, neg-round}
-
--- ---- the ceiling is the floor from the other side of zero
-pub above-is : (x : Float) → neg (wholeBelow (neg x)) ≡ wholeAbove x
-unfolding wholeBelow wholeAbove neg
-above-is nan = refl
-above-is (inf true) = refl
-above-is (inf false) = refl
-above-is (fin false m e) =
-    let n = upward (m * up e) (down e) in
-    ap neg (sym (neg-round binary64 n 1)) ∙ neg-neg (round binary64 false n 1)
-above-is (fin true m e) = neg-round binary64 (m * up e / down e) 1
+use Rattle.numbers_spec.specs.Whole.{halfUp, upward, wholeNearest, wholeBelow}
+use Rattle.numbers_spec.proofs.Encode.{same-value}
+use Rattle.numbers_spec.proofs.Value.{same-fraction}
 
 -- ---- a value of the format rounds to itself
 pub round-own : (x : Float) (s : Bool) (sig exp num den : ℕ) → T (fits binary64 x) → Parted x s sig exp → 0 < den → num * 2 ^ 1074 ≡ sig * 2 ^ exp * den → round binary64 s num den ≡ x

@@ -7,8 +7,8 @@ use native.Mathlib.Omega.{arith}
 use lib.Ieee.{Float}
 use lib.ListN.{length, getD, set, take, drop, length-append, length-set, length-drop}
 use lib.Seq.{sets, sets-eq, take-suc, take-all, take-at, drop-at, drop-drop, length-take-le}
-use Rattle.matcher_picks.specs.declared.candidates.Candidate.{Candidate}
-use Rattle.matcher_picks.proofs.CandidateLaws.{eight}
+use Rattle.matcher_spec.specs.declared.types.Candidate.{Candidate}
+use Rattle.matcher_spec.proofs.CandidateLaws.{eight}
 use Rattle.compare_exports.specs.MatcherCalls.{numbersOf}
 use borrow.Author.Needs.{needs}
 use Rattle.compare_exports.proofs.matcher_calls.write_candidates.Statement.{statement}

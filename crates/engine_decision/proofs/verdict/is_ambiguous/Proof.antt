@@ -2,7 +2,7 @@
 use mathlib.Core.Path.{_≡_}
 use lib.ListN.{length}
 use borrow.Author.Needs.{needs}
-use Rattle.matcher_picks.proofs.CandidateLaws.{eight}
+use Rattle.matcher_spec.proofs.CandidateLaws.{eight}
 use Rattle.engine_decision.proofs.DecideLaws.{ambiguous-some}
 use Rattle.engine_decision.proofs.verdict.is_ambiguous.Statement.{statement}
 use Rattle.engine_decision.proofs.verdict.is_ambiguous.Tie as tie

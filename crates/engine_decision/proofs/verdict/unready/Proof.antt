@@ -3,7 +3,7 @@ use lib.Dec.{lit≤}
 use lib.Ieee.{ofBits}
 use mathlib.Core.List.{[]}
 use borrow.Author.Needs.{needs}
-use Rattle.matcher_picks.proofs.CandidateLaws.{listed-result}
+use Rattle.matcher_spec.proofs.CandidateLaws.{listed-result}
 use Rattle.engine_decision.proofs.verdict.unready.Statement.{statement}
 use Rattle.engine_decision.proofs.verdict.unready.Tie as tie
 

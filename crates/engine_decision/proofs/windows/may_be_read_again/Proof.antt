@@ -1,7 +1,7 @@
 -- `engine_decision::windows::may_be_read_again` meets its contract. Assumes nothing.
 use borrow.Author.Tests.{eq-eqb, ne-eqb}
 use borrow.Author.Needs.{needs}
-use Rattle.matcher_bands.specs.Timeline.{accepts}
+use Rattle.matcher_spec.specs.Timeline.{accepts}
 use Rattle.engine_decision.proofs.windows.may_be_read_again.Statement.{statement}
 use Rattle.engine_decision.proofs.windows.may_be_read_again.Tie as tie
 

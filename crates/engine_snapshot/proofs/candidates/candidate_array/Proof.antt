@@ -4,7 +4,7 @@ use native.Mathlib.Omega.{arith}
 use mathlib.Core.Path.{_≡_}
 use lib.ListN.{length, take}
 use borrow.Author.Needs.{needs}
-use Rattle.matcher_picks.proofs.CandidateLaws.{eight}
+use Rattle.matcher_spec.proofs.CandidateLaws.{eight}
 use Rattle.engine_spec.specs.Publishing.{coverage}
 use Rattle.engine_snapshot.proofs.ShownLaws.{shown-none, shown-more}
 use Rattle.engine_snapshot.specs.Shown.{shownArray}

@@ -3,7 +3,7 @@ use native.Mathlib.Omega.{arith}
 use mathlib.Core.Path.{_≡_, sym}
 use lib.ListN.{length}
 use lib.Seq.{length-take-le}
-use Rattle.matcher_picks.proofs.CandidateLaws.{eight}
+use Rattle.matcher_spec.proofs.CandidateLaws.{eight}
 use Rattle.engine_snapshot.proofs.candidates.found_count.Statement.{statement}
 use Rattle.engine_snapshot.proofs.candidates.found_count.Tie as tie
 

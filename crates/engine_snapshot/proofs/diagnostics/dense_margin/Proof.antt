@@ -1,7 +1,7 @@
 -- `engine_snapshot::diagnostics::dense_margin` meets its contract. Assumes nothing.
 use lib.Ieee.{ofBits}
 use borrow.Author.Needs.{needs}
-use Rattle.matcher_picks.specs.Candidates.{marginOf}
+use Rattle.matcher_spec.specs.Candidates.{marginOf}
 use Rattle.engine_snapshot.proofs.diagnostics.dense_margin.Statement.{statement}
 use Rattle.engine_snapshot.proofs.diagnostics.dense_margin.Tie as tie
 

@@ -3,7 +3,7 @@ use mathlib.Core.Path.{refl, sym, ap}
 use lib.Ieee.{ofBits}
 use mathlib.Core.List.{List}
 use borrow.Author.Needs.{needs}
-use Rattle.matcher_picks.specs.declared.candidates.Candidate.{Candidate}
+use Rattle.matcher_spec.specs.declared.types.Candidate.{Candidate}
 use Rattle.engine_spec.specs.Publishing.{ofBest}
 use Rattle.engine_snapshot.proofs.spectral.best_or_blank.Statement.{statement}
 use Rattle.engine_snapshot.proofs.spectral.best_or_blank.Tie as tie

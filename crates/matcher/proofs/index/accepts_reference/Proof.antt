@@ -1,6 +1,6 @@
 -- `matcher::index::accepts_reference` meets its contract. Assumes nothing.
 use borrow.Author.Needs.{needs}
-use Rattle.matcher.specs.Index.{acceptsReference}
+use Rattle.matcher_spec.specs.Index.{acceptsReference}
 use Rattle.matcher.proofs.index.accepts_reference.Statement.{statement}
 use Rattle.matcher.proofs.index.accepts_reference.Tie as tie
 

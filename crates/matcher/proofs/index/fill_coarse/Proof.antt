@@ -6,7 +6,7 @@ use native.Mathlib.Omega.{arith}
 use mathlib.Core.List.{List, _++_}
 use lib.Ieee.{Float}
 use lib.ListN.{drop, length-take}
-use Rattle.matcher_bands.specs.Energy.{allAverages, allEnergies}
+use Rattle.matcher_spec.specs.Energy.{allAverages, allEnergies}
 use Rattle.matcher.proofs.SearchLaws.{front-is}
 use Rattle.matcher.proofs.index.fill_coarse.Statement.{statement}
 use Rattle.matcher.proofs.index.fill_coarse.Tie as tie

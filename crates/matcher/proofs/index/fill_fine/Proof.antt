@@ -7,9 +7,9 @@ use mathlib.Core.List.{List, _++_}
 use lib.Ieee.{Float}
 use lib.ListN.{length, take, drop, length-take}
 use lib.Seq.{take-all, length-take-le}
-use Rattle.matcher_bands.specs.Centring.{centred}
-use Rattle.matcher_bands.specs.Energy.{allEnergies}
-use Rattle.matcher_bands.specs.Rows.{row, rows}
+use Rattle.matcher_spec.specs.Centring.{centred}
+use Rattle.matcher_spec.specs.Energy.{allEnergies}
+use Rattle.numbers_spec.specs.Rows.{row, rows}
 use Rattle.matcher.proofs.SearchLaws.{one-row, front-and-rest, drop-past, centred-within}
 use Rattle.matcher.proofs.index.fill_fine.Statement.{statement}
 use Rattle.matcher.proofs.index.fill_fine.Tie as tie

@@ -7,10 +7,10 @@ use mathlib.Core.List.{List, _++_}
 use borrow.Author.Tests.{not-true, not-false}
 use lib.Ieee.{Float}
 use lib.ListN.{length, drop, length-take}
-use Rattle.matcher_bands.specs.Centring.{radius}
-use Rattle.matcher_bands.specs.Energy.{allAverages, allEnergies}
-use Rattle.matcher.specs.Index.{fineValues, matcherOf}
-use Rattle.matcher_bands.proofs.RadiusLaw.{radius-small}
+use Rattle.matcher_spec.specs.Centring.{radius}
+use Rattle.matcher_spec.specs.Energy.{allAverages, allEnergies}
+use Rattle.matcher_spec.specs.Index.{fineValues, matcherOf}
+use Rattle.matcher_spec.proofs.RadiusLaw.{radius-small}
 use Rattle.matcher.proofs.SearchLaws.{front-is, front-filled, accepted-room}
 use Rattle.matcher.proofs.index.fill_index.Statement.{statement}
 use Rattle.matcher.proofs.index.fill_index.Tie as tie

@@ -6,8 +6,8 @@ use native.Mathlib.Omega.{arith}
 use mathlib.Core.List.{List}
 use lib.Ieee.{Float}
 use lib.ListN.{take, drop}
-use Rattle.matcher_bands.specs.Energy.{bandsOf, totals}
-use Rattle.matcher.specs.Search.{candidateOf, candidateIn}
+use Rattle.matcher_spec.specs.Energy.{bandsOf, totals}
+use Rattle.matcher_spec.specs.Search.{candidateOf, candidateIn}
 use Rattle.matcher.proofs.SearchLaws.{shorter-front}
 use Rattle.matcher.proofs.search.best_candidate.Statement.{statement}
 use Rattle.matcher.proofs.search.best_candidate.Tie as tie

@@ -1,6 +1,6 @@
 -- `matcher::search::candidate_of` meets its contract. Assumes nothing.
 use native.Mathlib.Omega.{arith}
-use Rattle.matcher.specs.Search.{candidateOf}
+use Rattle.matcher_spec.specs.Search.{candidateOf}
 use borrow.Author.Needs.{needs}
 use Rattle.matcher.proofs.search.candidate_of.Statement.{statement}
 use Rattle.matcher.proofs.search.candidate_of.Tie as tie

@@ -6,10 +6,10 @@ use native.Mathlib.Omega.{arith}
 use mathlib.Core.List.{List, [], _∷_}
 use lib.Ieee.{Float}
 use lib.ListN.{length, getD, take}
-use Rattle.matcher_picks.specs.Candidates.{sortInto, listed}
-use Rattle.matcher_bands.specs.Energy.{Bands, bandsOf}
-use Rattle.matcher.specs.Search.{candidatesAt}
-use Rattle.matcher_picks.proofs.CandidateLaws.{next, no-more}
+use Rattle.matcher_spec.specs.Candidates.{sortInto, listed}
+use Rattle.matcher_spec.specs.Energy.{Bands, bandsOf}
+use Rattle.matcher_spec.specs.Search.{candidatesAt}
+use Rattle.matcher_spec.proofs.CandidateLaws.{next, no-more}
 use Rattle.matcher.proofs.SearchLaws.{shorter-front, Found, found-none, found-more, found-all, eight}
 use Rattle.matcher.proofs.search.candidates_around.Statement.{statement}
 use Rattle.matcher.proofs.search.candidates_around.Tie as tie

@@ -4,7 +4,7 @@ use mathlib.Core.Path.{ap, _∙_}
 use Prim.Native.Nat.{ℕ, _+_, _-_, _*_}
 use native.Mathlib.Omega.{arith}
 use lib.ListN.{take, length-take}
-use Rattle.matcher_bands.specs.Energy.{allEnergies}
+use Rattle.matcher_spec.specs.Energy.{allEnergies}
 use Rattle.matcher.proofs.SearchLaws.{query-room, front-is, kept-rows}
 use Rattle.matcher.proofs.search.centre_query.Statement.{statement}
 use Rattle.matcher.proofs.search.centre_query.Tie as tie

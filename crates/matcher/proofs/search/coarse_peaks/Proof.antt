@@ -7,10 +7,10 @@ use native.Mathlib.Omega.{arith}
 use mathlib.Core.List.{List, []}
 use lib.Ieee.{Float}
 use lib.ListN.{length, take, drop, length-take}
-use Rattle.matcher_bands.specs.Energy.{bandsOf, totals}
-use Rattle.matcher_picks.specs.Peaks.{peaks}
-use Rattle.matcher_scores.specs.Scores.{correlations}
-use Rattle.matcher.specs.Search.{coarseScores}
+use Rattle.matcher_spec.specs.Energy.{bandsOf, totals}
+use Rattle.matcher_spec.specs.Peaks.{peaks}
+use Rattle.matcher_spec.specs.Scores.{correlations}
+use Rattle.matcher_spec.specs.Search.{coarseScores}
 use Rattle.matcher.proofs.SearchLaws.{shorter-front}
 use Rattle.matcher.proofs.search.coarse_peaks.Statement.{statement}
 use Rattle.matcher.proofs.search.coarse_peaks.Tie as tie

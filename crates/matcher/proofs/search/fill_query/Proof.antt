@@ -4,8 +4,8 @@ use borrow.Author.Tests.{not-true, not-false}
 use mathlib.Core.Bool.{false≢true}
 use mathlib.Core.Path.{sym, _∙_}
 use native.Mathlib.Omega.{arith}
-use Rattle.matcher.specs.Search.{windowOf}
-use Rattle.matcher_bands.proofs.RadiusLaw.{radius-small}
+use Rattle.matcher_spec.specs.Search.{windowOf}
+use Rattle.matcher_spec.proofs.RadiusLaw.{radius-small}
 use Rattle.matcher.proofs.SearchLaws.{searchable-room, query-filled}
 use Rattle.matcher.proofs.search.fill_query.Statement.{statement}
 use Rattle.matcher.proofs.search.fill_query.Tie as tie

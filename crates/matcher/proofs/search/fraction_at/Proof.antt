@@ -5,7 +5,7 @@ use Prim.Native.Nat.{_+_}
 use lib.Dec.{ltb}
 use lib.ListN.{length}
 use lib.Ieee.{ofBits}
-use Rattle.matcher.specs.Search.{fraction}
+use Rattle.matcher_spec.specs.Search.{fraction}
 use Rattle.matcher.proofs.SearchLaws.{and-left, and-right}
 use Rattle.matcher.proofs.search.fraction_at.Statement.{statement}
 use Rattle.matcher.proofs.search.fraction_at.Tie as tie

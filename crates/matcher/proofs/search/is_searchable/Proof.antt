@@ -1,8 +1,8 @@
 -- `matcher::search::is_searchable` meets its contract: the margin fits, since the radius is at most 250. Assumes nothing.
 use borrow.Author.Needs.{needs}
 use native.Mathlib.Omega.{arith}
-use Rattle.matcher.specs.Search.{searchable}
-use Rattle.matcher_bands.proofs.RadiusLaw.{radius-small}
+use Rattle.matcher_spec.specs.Search.{searchable}
+use Rattle.matcher_spec.proofs.RadiusLaw.{radius-small}
 use Rattle.matcher.proofs.search.is_searchable.Statement.{statement}
 use Rattle.matcher.proofs.search.is_searchable.Tie as tie
 

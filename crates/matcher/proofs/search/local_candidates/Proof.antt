@@ -5,12 +5,12 @@ use mathlib.Core.List.{List, [], _∷_, _++_}
 use Prim.Native.Nat.{ℕ, _-_}
 use native.Mathlib.Omega.{arith}
 use lib.Ieee.{Float, le, ofBits}
-use Rattle.numbers.specs.Arithmetic.{zero⁺, atLeast, atMost}
-use Rattle.matcher_picks.specs.Candidates.{resultOf}
-use Rattle.matcher.specs.Index.{lentBands}
-use Rattle.matcher.specs.Search.{candidateIn}
-use Rattle.matcher_picks.specs.declared.candidates.Candidate.{Candidate}
-use Rattle.matcher_picks.proofs.CandidateLaws.{listed-result, result-listed}
+use Rattle.numbers_spec.specs.Arithmetic.{zero⁺, atLeast, atMost}
+use Rattle.matcher_spec.specs.Candidates.{resultOf}
+use Rattle.matcher_spec.specs.Index.{lentBands}
+use Rattle.matcher_spec.specs.Search.{candidateIn}
+use Rattle.matcher_spec.specs.declared.types.Candidate.{Candidate}
+use Rattle.matcher_spec.proofs.CandidateLaws.{listed-result, result-listed}
 use Rattle.matcher.proofs.SearchLaws.{and-last, counts-within, local-one, local-none}
 use Rattle.matcher.proofs.search.local_candidates.Statement.{statement}
 use Rattle.matcher.proofs.search.local_candidates.Tie as tie

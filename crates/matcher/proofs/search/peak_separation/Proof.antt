@@ -1,7 +1,7 @@
 -- `matcher::search::peak_separation` meets its contract. Assumes nothing.
 use borrow.Author.Needs.{needs}
 use lib.Ieee.{ofBits, ofInt}
-use Rattle.matcher.specs.Search.{separation}
+use Rattle.matcher_spec.specs.Search.{separation}
 use Rattle.matcher.proofs.search.peak_separation.Statement.{statement}
 use Rattle.matcher.proofs.search.peak_separation.Tie as tie
 

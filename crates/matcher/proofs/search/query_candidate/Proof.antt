@@ -5,8 +5,8 @@ use Prim.Native.Nat.{ℕ, _*_}
 use native.Mathlib.Numerals.{add-one}
 use native.Mathlib.Omega.{arith}
 use lib.ListN.{take, length-take}
-use Rattle.matcher_bands.specs.Energy.{bandsOf}
-use Rattle.matcher.specs.Search.{candidateIn}
+use Rattle.matcher_spec.specs.Energy.{bandsOf}
+use Rattle.matcher_spec.specs.Search.{candidateIn}
 use Rattle.matcher.proofs.SearchLaws.{query-stays}
 use Rattle.matcher.proofs.search.query_candidate.Statement.{statement}
 use Rattle.matcher.proofs.search.query_candidate.Tie as tie

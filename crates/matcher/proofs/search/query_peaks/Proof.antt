@@ -6,10 +6,10 @@ use native.Mathlib.Nat.{mul-le-mul-left}
 use native.Mathlib.Numerals.{add-one}
 use native.Mathlib.Omega.{arith}
 use lib.ListN.{take, length-take}
-use Rattle.matcher_bands.specs.Energy.{bandsOf}
-use Rattle.matcher_picks.specs.Peaks.{peaks}
-use Rattle.matcher.specs.Index.{lentBands}
-use Rattle.matcher.specs.Search.{coarseScores, separation}
+use Rattle.matcher_spec.specs.Energy.{bandsOf}
+use Rattle.matcher_spec.specs.Peaks.{peaks}
+use Rattle.matcher_spec.specs.Index.{lentBands}
+use Rattle.matcher_spec.specs.Search.{coarseScores, separation}
 use Rattle.matcher.proofs.SearchLaws.{query-stays}
 use Rattle.matcher.proofs.search.query_peaks.Statement.{statement}
 use Rattle.matcher.proofs.search.query_peaks.Tie as tie

@@ -7,8 +7,8 @@ use native.Mathlib.Omega.{arith}
 use mathlib.Core.List.{List}
 use lib.Ieee.{Float}
 use lib.ListN.{length, take, drop, length-take, length-drop}
-use Rattle.matcher_bands.specs.Energy.{allAverages, allEnergies}
-use Rattle.matcher_bands.proofs.RowLaws.{whole-row}
+use Rattle.matcher_spec.specs.Energy.{allAverages, allEnergies}
+use Rattle.numbers_spec.proofs.RowLaws.{whole-row}
 use Rattle.matcher.proofs.SearchLaws.{within-is, within-before, put-read, averages-of-front}
 use Rattle.matcher.proofs.search.reduce_query.Statement.{statement}
 use Rattle.matcher.proofs.search.reduce_query.Tie as tie

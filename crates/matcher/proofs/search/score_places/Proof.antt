@@ -7,8 +7,8 @@ use native.Mathlib.Omega.{arith}
 use mathlib.Core.List.{List, []}
 use lib.Ieee.{Float}
 use lib.ListN.{length, take, drop, length-take, length-drop}
-use Rattle.matcher_bands.specs.Energy.{bandsOf, totals}
-use Rattle.matcher_scores.specs.Scores.{correlations}
+use Rattle.matcher_spec.specs.Energy.{bandsOf, totals}
+use Rattle.matcher_spec.specs.Scores.{correlations}
 use Rattle.matcher.proofs.SearchLaws.{put-read}
 use Rattle.matcher.proofs.search.score_places.Statement.{statement}
 use Rattle.matcher.proofs.search.score_places.Tie as tie

@@ -1,7 +1,7 @@
 -- `matcher::search::vertex_of` meets its contract. Assumes nothing.
 use borrow.Author.Needs.{needs}
 use lib.Ieee.{neg, ofBits}
-use Rattle.matcher.specs.Search.{vertex}
+use Rattle.matcher_spec.specs.Search.{vertex}
 use Rattle.matcher.proofs.search.vertex_of.Statement.{statement}
 use Rattle.matcher.proofs.search.vertex_of.Tie as tie
 

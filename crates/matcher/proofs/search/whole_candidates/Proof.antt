@@ -8,12 +8,12 @@ use mathlib.Core.List.{List}
 use lib.Ieee.{Float}
 use lib.ListN.{length, take, length-take}
 use lib.Seq.{length-take-le}
-use Rattle.matcher_picks.specs.Candidates.{independent, resultOf, sorted}
-use Rattle.matcher_picks.specs.Peaks.{peaks}
-use Rattle.matcher_bands.specs.Energy.{Bands, bandsOf}
-use Rattle.matcher.specs.Index.{lentBands}
-use Rattle.matcher.specs.Search.{candidatesAt, coarseScores, separation, wholeFound}
-use Rattle.matcher_picks.specs.declared.candidates.Candidate.{Candidate}
+use Rattle.matcher_spec.specs.Candidates.{independent, resultOf, sorted}
+use Rattle.matcher_spec.specs.Peaks.{peaks}
+use Rattle.matcher_spec.specs.Energy.{Bands, bandsOf}
+use Rattle.matcher_spec.specs.Index.{lentBands}
+use Rattle.matcher_spec.specs.Search.{candidatesAt, coarseScores, separation, wholeFound}
+use Rattle.matcher_spec.specs.declared.types.Candidate.{Candidate}
 use Rattle.matcher.proofs.SearchLaws.{independent-few}
 use Rattle.matcher.proofs.search.whole_candidates.Statement.{statement}
 use Rattle.matcher.proofs.search.whole_candidates.Tie as tie

@@ -5,9 +5,9 @@ use mathlib.Core.Path.{sym, _∙_}
 use Prim.Native.Nat.{_-_, _*_}
 use native.Mathlib.Omega.{arith}
 use lib.ListN.{length}
-use Rattle.matcher.specs.Index.{lentMatcher}
-use Rattle.matcher.specs.Search.{windowOf, wholeSearch}
-use Rattle.matcher_bands.proofs.RadiusLaw.{radius-small}
+use Rattle.matcher_spec.specs.Index.{lentMatcher}
+use Rattle.matcher_spec.specs.Search.{windowOf, wholeSearch}
+use Rattle.matcher_spec.proofs.RadiusLaw.{radius-small}
 use Rattle.matcher.proofs.SearchLaws.{query-room, searchable-room, whole-answer}
 use Rattle.matcher.proofs.search.whole_found.Statement.{statement}
 use Rattle.matcher.proofs.search.whole_found.Tie as tie

@@ -4,9 +4,9 @@ use mathlib.Core.Path.{refl, ap, _∙_}
 use Prim.Native.Nat.{_+_, _*_}
 use native.Mathlib.Omega.{arith}
 use lib.ListN.{take}
-use Rattle.matcher_picks.specs.Candidates.{insert, listed}
-use Rattle.matcher_bands.specs.Energy.{bandsOf}
-use Rattle.matcher_picks.specs.declared.candidates.Candidate.{Candidate}
+use Rattle.matcher_spec.specs.Candidates.{insert, listed}
+use Rattle.matcher_spec.specs.Energy.{bandsOf}
+use Rattle.matcher_spec.specs.declared.types.Candidate.{Candidate}
 use Rattle.matcher.proofs.SearchLaws.{one-found, none-found}
 use Rattle.matcher.proofs.search.with_candidate.Statement.{statement}
 use Rattle.matcher.proofs.search.with_candidate.Tie as tie

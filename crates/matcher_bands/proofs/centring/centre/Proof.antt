@@ -7,8 +7,8 @@ use native.Mathlib.Omega.{arith}
 use lib.Ieee.{Float, nan, binary32, sub}
 use lib.ListN.{length, getD}
 use borrow.Author.Needs.{needs}
-use Rattle.matcher_bands.specs.Centring.{centredAt}
-use Rattle.matcher_bands.proofs.RowLaws.{Filled, filled-none, filled-more, filled-length}
+use Rattle.matcher_spec.specs.Centring.{centredAt}
+use Rattle.numbers_spec.proofs.RowLaws.{Filled, filled-none, filled-more, filled-length}
 use Rattle.matcher_bands.proofs.CentringLaws.{filled-ahead, centred-by}
 use Rattle.matcher_bands.proofs.centring.centre.Statement.{statement}
 use Rattle.matcher_bands.proofs.centring.centre.Tie as tie

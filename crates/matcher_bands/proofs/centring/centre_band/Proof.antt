@@ -7,9 +7,9 @@ use lib.Ieee.{Float, nan}
 use lib.ListN.{length, take, drop}
 use lib.Seq.{take-at}
 use borrow.Author.Needs.{needs}
-use Rattle.matcher_bands.specs.Rows.{tabulate}
-use Rattle.matcher_bands.specs.Centring.{logs, centredAt, centred}
-use Rattle.matcher_bands.proofs.RowLaws.{length-tabulate}
+use Rattle.numbers_spec.specs.Rows.{tabulate}
+use Rattle.matcher_spec.specs.Centring.{logs, centredAt, centred}
+use Rattle.numbers_spec.proofs.RowLaws.{length-tabulate}
 use Rattle.matcher_bands.proofs.CentringLaws.{tabulate-part, logs-are}
 use Rattle.matcher_bands.proofs.centring.centre_band.Statement.{statement}
 use Rattle.matcher_bands.proofs.centring.centre_band.Tie as tie

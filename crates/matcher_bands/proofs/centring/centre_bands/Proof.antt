@@ -6,9 +6,9 @@ use Prim.Native.Nat.{ℕ, _+_, _-_, _*_, _≤_}
 use native.Mathlib.Omega.{arith}
 use lib.Ieee.{Float}
 use lib.ListN.{length, take, drop}
-use Rattle.matcher_bands.specs.Rows.{row}
-use Rattle.matcher_bands.specs.Centring.{centred}
-use Rattle.matcher_bands.proofs.RowLaws.{row-within}
+use Rattle.numbers_spec.specs.Rows.{row}
+use Rattle.matcher_spec.specs.Centring.{centred}
+use Rattle.numbers_spec.proofs.RowLaws.{row-within}
 use Rattle.matcher_bands.proofs.CentringLaws.{part-length, Fronted, fronted-none, fronted-more}
 use Rattle.matcher_bands.proofs.centring.centre_bands.Statement.{statement}
 use Rattle.matcher_bands.proofs.centring.centre_bands.Tie as tie

@@ -1,6 +1,6 @@
 -- `matcher_bands::centring::context_frames` meets its contract. Assumes nothing.
 use borrow.Author.Needs.{needs}
-use Rattle.matcher_bands.specs.Centring.{contextFrames}
+use Rattle.matcher_spec.specs.Centring.{contextFrames}
 use Rattle.matcher_bands.proofs.centring.context_frames.Statement.{statement}
 use Rattle.matcher_bands.proofs.centring.context_frames.Tie as tie
 

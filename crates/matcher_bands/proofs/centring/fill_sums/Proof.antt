@@ -5,9 +5,9 @@ use native.Mathlib.Omega.{arith}
 use lib.Ieee.{nan, ofBits}
 use lib.ListN.{length, getD, length-set}
 use borrow.Author.Needs.{needs}
-use Rattle.matcher_bands.specs.Rows.{tabulate, sumTo}
-use Rattle.matcher_bands.specs.Centring.{sumOf}
-use Rattle.matcher_bands.proofs.RowLaws.{Filled, filled-none, filled-more, filled-length, filled-all, sum-more}
+use Rattle.numbers_spec.specs.Rows.{tabulate, sumTo}
+use Rattle.matcher_spec.specs.Centring.{sumOf}
+use Rattle.numbers_spec.proofs.RowLaws.{Filled, filled-none, filled-more, filled-length, filled-all, sum-more}
 use Rattle.matcher_bands.proofs.centring.fill_sums.Statement.{statement}
 use Rattle.matcher_bands.proofs.centring.fill_sums.Tie as tie
 

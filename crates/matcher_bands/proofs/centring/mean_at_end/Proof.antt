@@ -1,6 +1,6 @@
 -- `matcher_bands::centring::mean_at_end` meets its contract. Assumes nothing.
 use borrow.Author.Needs.{needs}
-use Rattle.matcher_bands.specs.Centring.{meanAround}
+use Rattle.matcher_spec.specs.Centring.{meanAround}
 use Rattle.matcher_bands.proofs.centring.mean_at_end.Statement.{statement}
 use Rattle.matcher_bands.proofs.centring.mean_at_end.Tie as tie
 

@@ -4,8 +4,8 @@ use Prim.Native.Nat.{ℕ, _+_, _-_, _*_}
 use native.Mathlib.Omega.{arith}
 use lib.Ieee.{nan}
 use lib.ListN.{length, getD}
-use Rattle.numbers.specs.Arithmetic.{_⊕_, _⊖_, _⊗_, _⊘_, real}
-use Rattle.numbers.specs.Narrow.{nearestF32}
+use Rattle.numbers_spec.specs.Arithmetic.{_⊕_, _⊖_, _⊗_, _⊘_, real}
+use Rattle.numbers_spec.specs.Narrow.{nearestF32}
 use Rattle.matcher_bands.proofs.CentringLaws.{inside}
 use borrow.Author.Needs.{needs}
 use Rattle.matcher_bands.proofs.centring.mean_inside.Statement.{statement}

@@ -1,7 +1,7 @@
 -- `matcher_bands::centring::radius` meets its contract. Assumes nothing.
 use borrow.Author.Needs.{needs}
 use lib.Ieee.{ofBits}
-use Rattle.matcher_bands.specs.Centring.{radius}
+use Rattle.matcher_spec.specs.Centring.{radius}
 use Rattle.matcher_bands.proofs.centring.radius.Statement.{statement}
 use Rattle.matcher_bands.proofs.centring.radius.Tie as tie
 

@@ -1,7 +1,7 @@
 -- `matcher_bands::energy::average_at` meets its contract. Assumes nothing.
 use mathlib.Core.Path.{refl}
 use borrow.Author.Needs.{needs}
-use Rattle.matcher_bands.specs.Energy.{average}
+use Rattle.matcher_spec.specs.Energy.{average}
 use Rattle.matcher_bands.proofs.energy.average_at.Statement.{statement}
 use Rattle.matcher_bands.proofs.energy.average_at.Tie as tie
 

@@ -7,8 +7,8 @@ use mathlib.Core.List.{List, _++_}
 use lib.ListN.{length, take, drop, set, length-set}
 use lib.Ieee.{Float, nan}
 use lib.Seq.{paste, paste-zero, paste-suc, take-all}
-use Rattle.matcher_bands.specs.Energy.{average, averages}
-use Rattle.matcher_bands.proofs.RowLaws.{getD-tabulate}
+use Rattle.matcher_spec.specs.Energy.{average, averages}
+use Rattle.numbers_spec.proofs.RowLaws.{getD-tabulate}
 use Rattle.matcher_bands.proofs.EnergyLaws.{length-part, length-averages, kept-before, average-of}
 use Rattle.matcher_bands.proofs.energy.average_within.Statement.{statement}
 use Rattle.matcher_bands.proofs.energy.average_within.Tie as tie

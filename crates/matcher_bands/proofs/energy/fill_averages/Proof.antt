@@ -5,8 +5,8 @@ use native.Mathlib.Omega.{arith}
 use mathlib.Core.List.{List}
 use lib.ListN.{length}
 use lib.Ieee.{Float}
-use Rattle.matcher_bands.specs.Energy.{average, averages}
-use Rattle.matcher_bands.proofs.RowLaws.{Filled, filled-none, filled-more, filled-length, whole-row}
+use Rattle.matcher_spec.specs.Energy.{average, averages}
+use Rattle.numbers_spec.proofs.RowLaws.{Filled, filled-none, filled-more, filled-length, whole-row}
 use Rattle.matcher_bands.proofs.energy.fill_averages.Statement.{statement}
 use Rattle.matcher_bands.proofs.energy.fill_averages.Tie as tie
 

@@ -3,8 +3,8 @@ use mathlib.Core.Path.{_≡_}
 use Prim.Native.Nat.{_+_, _*_, _-_, _≤_}
 use native.Mathlib.Omega.{arith}
 use lib.ListN.{length, length-take, length-drop}
-use Rattle.matcher_bands.specs.Energy.{energies}
-use Rattle.matcher_bands.proofs.RowLaws.{row-within}
+use Rattle.matcher_spec.specs.Energy.{energies}
+use Rattle.numbers_spec.proofs.RowLaws.{row-within}
 use Rattle.matcher_bands.proofs.EnergyLaws.{length-energies, Banded, banded-none, banded-more}
 use Rattle.matcher_bands.proofs.energy.fill_energies.Statement.{statement}
 use Rattle.matcher_bands.proofs.energy.fill_energies.Tie as tie

@@ -5,10 +5,10 @@ use native.Mathlib.Omega.{arith}
 use lib.ListN.{length, getD, length-set}
 use lib.Ieee.{nan, ofBits}
 use borrow.Author.Needs.{needs}
-use Rattle.numbers.specs.Arithmetic.{_⊗_}
-use Rattle.matcher_bands.specs.Rows.{sumTo}
-use Rattle.matcher_bands.specs.Energy.{energy, energies}
-use Rattle.matcher_bands.proofs.RowLaws.{Filled, filled-none, filled-more, whole-row, sum-more}
+use Rattle.numbers_spec.specs.Arithmetic.{_⊗_}
+use Rattle.numbers_spec.specs.Rows.{sumTo}
+use Rattle.matcher_spec.specs.Energy.{energy, energies}
+use Rattle.numbers_spec.proofs.RowLaws.{Filled, filled-none, filled-more, whole-row, sum-more}
 use Rattle.matcher_bands.proofs.energy.fill_energy.Statement.{statement}
 use Rattle.matcher_bands.proofs.energy.fill_energy.Tie as tie
 

@@ -3,8 +3,8 @@ use mathlib.Core.Path.{_≡_}
 use Prim.Native.Nat.{_+_, _*_, _/_, _-_, _≤_}
 use native.Mathlib.Omega.{arith}
 use lib.ListN.{length, length-take, length-drop}
-use Rattle.matcher_bands.specs.Energy.{averages}
-use Rattle.matcher_bands.proofs.RowLaws.{row-within}
+use Rattle.matcher_spec.specs.Energy.{averages}
+use Rattle.numbers_spec.proofs.RowLaws.{row-within}
 use Rattle.matcher_bands.proofs.EnergyLaws.{length-averages, Banded, banded-none, banded-more}
 use Rattle.matcher_bands.proofs.energy.reduce_bands.Statement.{statement}
 use Rattle.matcher_bands.proofs.energy.reduce_bands.Tie as tie

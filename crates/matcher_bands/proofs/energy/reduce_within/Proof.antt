@@ -6,9 +6,9 @@ use mathlib.Core.List.{List, _++_, append-assoc, append-nil}
 use lib.ListN.{length, take, drop, length-append, take-append-drop}
 use lib.Ieee.{Float}
 use lib.Seq.{length-take-le, drop-drop}
-use Rattle.matcher_bands.specs.Rows.{rows, row}
-use Rattle.matcher_bands.specs.Energy.{averages, allAverages}
-use Rattle.matcher_bands.proofs.RowLaws.{row-within, next-row, rows-more, put-next}
+use Rattle.numbers_spec.specs.Rows.{rows, row}
+use Rattle.matcher_spec.specs.Energy.{averages, allAverages}
+use Rattle.numbers_spec.proofs.RowLaws.{row-within, next-row, rows-more, put-next}
 use Rattle.matcher_bands.proofs.EnergyLaws.{length-averages, kept-before}
 use Rattle.matcher_bands.proofs.energy.reduce_within.Statement.{statement}
 use Rattle.matcher_bands.proofs.energy.reduce_within.Tie as tie

@@ -6,9 +6,9 @@ use native.Mathlib.Omega.{arith}
 use mathlib.Core.List.{List}
 use lib.ListN.{length, getD, take, length-set}
 use lib.Ieee.{Float, nan}
-use Rattle.matcher_bands.specs.Rows.{tabulate}
-use Rattle.matcher_bands.specs.Energy.{totals}
-use Rattle.matcher_bands.proofs.RowLaws.{row-within, taken-more}
+use Rattle.numbers_spec.specs.Rows.{tabulate}
+use Rattle.matcher_spec.specs.Energy.{totals}
+use Rattle.numbers_spec.proofs.RowLaws.{row-within, taken-more}
 use Rattle.matcher_bands.proofs.energy.whole_energies.Statement.{statement}
 use Rattle.matcher_bands.proofs.energy.whole_energies.Tie as tie
 

@@ -1,6 +1,6 @@
 -- `matcher_bands::timeline::accepts_timeline` meets its contract. Assumes nothing.
 use borrow.Author.Needs.{needs}
-use Rattle.matcher_bands.specs.Timeline.{accepts}
+use Rattle.matcher_spec.specs.Timeline.{accepts}
 use Rattle.matcher_bands.proofs.timeline.accepts_timeline.Statement.{statement}
 use Rattle.matcher_bands.proofs.timeline.accepts_timeline.Tie as tie
 

@@ -8,9 +8,9 @@ use lib.Ieee.{Float}
 use lib.ListN.{length}
 use borrow.Author.Needs.{needs}
 use borrow.Author.Tests.{not-true, not-false}
-use Rattle.matcher_bands.specs.Rows.{allTo}
-use Rattle.matcher_bands.specs.Timeline.{onTime}
-use Rattle.matcher_bands.proofs.RowLaws.{all-more, all-fails}
+use Rattle.numbers_spec.specs.Rows.{allTo}
+use Rattle.matcher_spec.specs.Timeline.{onTime}
+use Rattle.numbers_spec.proofs.RowLaws.{all-more, all-fails}
 use Rattle.matcher_bands.proofs.timeline.are_on_time.Statement.{statement}
 use Rattle.matcher_bands.proofs.timeline.are_on_time.Tie as tie
 

@@ -1,5 +1,5 @@
 -- `matcher_bands::timeline::are_valid` meets its contract. The loop's invariant: whether all values passed are valid. Assumes nothing.
-use mathlib.Core.Path.{_≡_, refl, _∙_}
+use mathlib.Core.Path.{_≡_, refl}
 use mathlib.Core.Bool.{Bool}
 use Prim.Native.Nat.{ℕ, _-_, _≤_}
 use native.Mathlib.Omega.{arith}
@@ -7,9 +7,9 @@ use lib.Ieee.{Float, nan}
 use lib.ListN.{length, getD}
 use mathlib.Core.List.{List}
 use borrow.Author.Needs.{needs}
-use Rattle.matcher_bands.specs.Rows.{allTo}
-use Rattle.matcher_bands.specs.Timeline.{validValue, validValues}
-use Rattle.matcher_bands.proofs.RowLaws.{all-next}
+use Rattle.numbers_spec.specs.Rows.{allTo}
+use Rattle.matcher_spec.specs.Timeline.{validValue, validValues}
+use Rattle.numbers_spec.proofs.RowLaws.{all-next}
 use Rattle.matcher_bands.proofs.timeline.are_valid.Statement.{statement}
 use Rattle.matcher_bands.proofs.timeline.are_valid.Tie as tie
 

@@ -1,6 +1,6 @@
 -- `matcher_bands::timeline::is_on_time` meets its contract. Assumes nothing.
 use borrow.Author.Needs.{needs}
-use Rattle.matcher_bands.specs.Timeline.{onTime}
+use Rattle.matcher_spec.specs.Timeline.{onTime}
 use Rattle.matcher_bands.proofs.timeline.is_on_time.Statement.{statement}
 use Rattle.matcher_bands.proofs.timeline.is_on_time.Tie as tie
 

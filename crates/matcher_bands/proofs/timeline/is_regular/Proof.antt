@@ -2,7 +2,7 @@
 use lib.Ieee.{ofBits}
 use borrow.Author.Needs.{needs}
 use borrow.Author.Tests.{lt-ltb, le-ltb}
-use Rattle.matcher_bands.specs.Timeline.{regular}
+use Rattle.matcher_spec.specs.Timeline.{regular}
 use Rattle.matcher_bands.proofs.timeline.is_regular.Statement.{statement}
 use Rattle.matcher_bands.proofs.timeline.is_regular.Tie as tie
 

@@ -2,9 +2,8 @@
 use mathlib.Core.Bool.{Bool, true, false, _&&_}
 use mathlib.Core.Path.{_≡_, refl}
 use lib.Ieee.{Float, nan, inf, fin, le, lt, ofBits, div}
-use lib.Ieee.Scale.{finite}
-use Rattle.numbers.specs.Arithmetic.{zero⁺}
-use Rattle.matcher_bands.specs.Timeline.{validValue}
+use Rattle.numbers_spec.specs.Arithmetic.{zero⁺}
+use Rattle.matcher_spec.specs.Timeline.{validValue}
 use Rattle.matcher_bands.proofs.timeline.is_valid.Statement.{statement}
 use Rattle.matcher_bands.proofs.timeline.is_valid.Tie as tie
 

@@ -4,8 +4,8 @@ use mathlib.Core.Logic.{⊎-elim}
 use Prim.Native.Nat.{_-_, _≤_}
 use native.Mathlib.Omega.{arith}
 use lib.ListN.{length, length-set, take}
-use Rattle.matcher_picks.specs.Candidates.{insert}
-use Rattle.matcher_picks.proofs.CandidateLaws.{eight, wholeOf, whole-placed, whole-passed, whole-last}
+use Rattle.matcher_spec.specs.Candidates.{insert}
+use Rattle.matcher_spec.proofs.CandidateLaws.{eight, wholeOf, whole-placed, whole-passed, whole-last}
 use Rattle.matcher_picks.proofs.candidates.insert_by_score.Statement.{statement}
 use Rattle.matcher_picks.proofs.candidates.insert_by_score.Tie as tie
 

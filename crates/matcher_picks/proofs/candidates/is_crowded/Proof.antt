@@ -5,8 +5,8 @@ use Prim.Native.Nat.{_-_, _≤_}
 use native.Mathlib.Omega.{arith}
 use borrow.Author.Needs.{needs}
 use lib.ListN.{length, take, drop}
-use Rattle.matcher_picks.specs.Candidates.{crowded}
-use Rattle.matcher_picks.proofs.CandidateLaws.{eight, no-more, crowded-next}
+use Rattle.matcher_spec.specs.Candidates.{crowded}
+use Rattle.matcher_spec.proofs.CandidateLaws.{eight, no-more, crowded-next}
 use Rattle.matcher_picks.proofs.candidates.is_crowded.Statement.{statement}
 use Rattle.matcher_picks.proofs.candidates.is_crowded.Tie as tie
 

@@ -6,7 +6,7 @@ use native.Mathlib.Omega.{arith}
 use borrow.Author.Needs.{needs}
 use borrow.Author.Tests.{not-true, not-false}
 use lib.ListN.{length, take}
-use Rattle.matcher_picks.proofs.CandidateLaws.{eight, next, no-more, Kept, kept-none, kept-all, kept-same, kept-more}
+use Rattle.matcher_spec.proofs.CandidateLaws.{eight, next, no-more, Kept, kept-none, kept-all, kept-same, kept-more}
 use Rattle.matcher_picks.proofs.candidates.keep_independent.Statement.{statement}
 use Rattle.matcher_picks.proofs.candidates.keep_independent.Tie as tie
 

@@ -5,8 +5,8 @@ use native.Mathlib.Omega.{arith}
 use borrow.Author.Needs.{needs}
 use lib.ListN.{length}
 use lib.Ieee.{ofBits}
-use Rattle.matcher_picks.specs.Candidates.{marginOf}
-use Rattle.matcher_picks.proofs.CandidateLaws.{eight, margin-of-one, margin-of-two}
+use Rattle.matcher_spec.specs.Candidates.{marginOf}
+use Rattle.matcher_spec.proofs.CandidateLaws.{eight, margin-of-one, margin-of-two}
 use Rattle.matcher_picks.proofs.candidates.margin.Statement.{statement}
 use Rattle.matcher_picks.proofs.candidates.margin.Tie as tie
 

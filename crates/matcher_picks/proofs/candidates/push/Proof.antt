@@ -1,6 +1,6 @@
 -- `matcher_picks::candidates::push` meets its contract. Assumes nothing.
 use borrow.Author.Needs.{needs}
-use Rattle.matcher_picks.proofs.CandidateLaws.{pushed}
+use Rattle.matcher_spec.proofs.CandidateLaws.{pushed}
 use Rattle.matcher_picks.proofs.candidates.push.Statement.{statement}
 use Rattle.matcher_picks.proofs.candidates.push.Tie as tie
 

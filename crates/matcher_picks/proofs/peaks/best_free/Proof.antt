@@ -5,7 +5,7 @@ use native.Mathlib.Numerals.{add-one}
 use native.Mathlib.Omega.{arith}
 use borrow.Author.Needs.{needs}
 use lib.ListN.{length}
-use Rattle.matcher_picks.specs.Peaks.{freeTo}
+use Rattle.matcher_spec.specs.Peaks.{freeTo}
 use Rattle.matcher_picks.proofs.peaks.best_free.Statement.{statement}
 use Rattle.matcher_picks.proofs.peaks.best_free.Tie as tie
 

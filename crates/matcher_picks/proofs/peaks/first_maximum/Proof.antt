@@ -8,7 +8,7 @@ use native.Mathlib.Omega.{arith}
 use mathlib.Core.List.{List}
 use lib.ListN.{length, getD}
 use lib.Ieee.{Float, nan, lt}
-use Rattle.matcher_picks.specs.Peaks.{maximumTo}
+use Rattle.matcher_spec.specs.Peaks.{maximumTo}
 use Rattle.matcher_picks.proofs.peaks.first_maximum.Statement.{statement}
 use Rattle.matcher_picks.proofs.peaks.first_maximum.Tie as tie
 

@@ -10,7 +10,7 @@ use mathlib.Core.List.{List}
 use lib.ListN.{length, getD}
 use lib.Dec.{ltb}
 use borrow.Author.Tests.{lt-ltb, le-ltb}
-use Rattle.matcher_picks.specs.Peaks.{nearTo, apart}
+use Rattle.matcher_spec.specs.Peaks.{nearTo, apart}
 use Rattle.matcher_picks.proofs.peaks.is_near.Statement.{statement}
 use Rattle.matcher_picks.proofs.peaks.is_near.Tie as tie
 

@@ -9,7 +9,7 @@ use lib.ListN.{length, take, length-set}
 use lib.Seq.{take-suc-set, length-take-le}
 use lib.Ieee.{Float}
 use borrow.Author.Tests.{eq-eqb, ne-eqb}
-use Rattle.matcher_picks.specs.Peaks.{bestFree, peaksFrom}
+use Rattle.matcher_spec.specs.Peaks.{bestFree, peaksFrom}
 use Rattle.matcher_picks.proofs.PeakLaws.{AllWithin, zeros-within, set-within}
 use Rattle.matcher_picks.proofs.peaks.pick_peaks.Statement.{statement}
 use Rattle.matcher_picks.proofs.peaks.pick_peaks.Tie as tie

@@ -5,8 +5,8 @@ use Prim.Native.Nat.{_<_}
 use native.Mathlib.Omega.{arith}
 use lib.ListN.{length, getD}
 use lib.Ieee.{Float, nan}
-use Rattle.numbers.specs.Arithmetic.{_⊕_}
-use Rattle.matcher_bands.proofs.RowLaws.{tabulate-ext}
+use Rattle.numbers_spec.specs.Arithmetic.{_⊕_}
+use Rattle.numbers_spec.proofs.RowLaws.{tabulate-ext}
 use Rattle.matcher_scores.proofs.BlockLaws.{quotient-is}
 use Rattle.matcher_scores.proofs.blocks.add_block.Statement.{statement}
 use Rattle.matcher_scores.proofs.blocks.add_block.Tie as tie

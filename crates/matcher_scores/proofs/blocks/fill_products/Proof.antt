@@ -3,8 +3,8 @@ use Prim.Native.Nat.{ℕ, _+_, _-_}
 use native.Mathlib.Omega.{arith}
 use lib.ListN.{length, getD}
 use lib.Ieee.{nan}
-use Rattle.numbers.specs.Arithmetic.{_⊖_, _⊗_, atLeast}
-use Rattle.matcher_bands.proofs.RowLaws.{Filling, filling-none, filling-more, filling-all}
+use Rattle.numbers_spec.specs.Arithmetic.{_⊖_, _⊗_, atLeast}
+use Rattle.numbers_spec.proofs.RowLaws.{Filling, filling-none, filling-more, filling-all}
 use Rattle.matcher_scores.proofs.blocks.fill_products.Statement.{statement}
 use Rattle.matcher_scores.proofs.blocks.fill_products.Tie as tie
 

@@ -5,7 +5,7 @@ use Prim.Native.Nat.{_-_}
 use native.Mathlib.Omega.{arith}
 use lib.ListN.{length, length-take, length-drop}
 use lib.Seq.{length-take-le}
-use Rattle.matcher_bands.proofs.RowLaws.{Filling, filling-none, filling-all}
+use Rattle.numbers_spec.proofs.RowLaws.{Filling, filling-none, filling-all}
 use Rattle.matcher_scores.proofs.BlockLaws.{added, block-more}
 use Rattle.matcher_scores.proofs.scores.add_band.Statement.{statement}
 use Rattle.matcher_scores.proofs.scores.add_band.Tie as tie

@@ -4,8 +4,8 @@ use Prim.Native.Nat.{ℕ, _-_}
 use native.Mathlib.Omega.{arith}
 use lib.ListN.{length}
 use lib.Ieee.{ofBits}
-use Rattle.numbers.specs.Arithmetic.{zero⁺}
-use Rattle.matcher_bands.proofs.RowLaws.{Filling, filling-none, filling-more, filling-all}
+use Rattle.numbers_spec.specs.Arithmetic.{zero⁺}
+use Rattle.numbers_spec.proofs.RowLaws.{Filling, filling-none, filling-more, filling-all}
 use Rattle.matcher_scores.proofs.scores.clear.Statement.{statement}
 use Rattle.matcher_scores.proofs.scores.clear.Tie as tie
 

@@ -3,9 +3,9 @@ use borrow.Author.Needs.{needs}
 use mathlib.Core.Path.{_∙_}
 use Prim.Native.Nat.{ℕ}
 use lib.Ieee.{Float, nan, ofBits}
-use Rattle.numbers.specs.Arithmetic.{_⊗_, _⊘_, one}
-use Rattle.matcher_scores.specs.Scores.{correlations, correlationAt}
-use Rattle.matcher_bands.proofs.RowLaws.{tabulate-then}
+use Rattle.numbers_spec.specs.Arithmetic.{_⊗_, _⊘_, one}
+use Rattle.matcher_spec.specs.Scores.{correlations, correlationAt}
+use Rattle.numbers_spec.proofs.RowLaws.{tabulate-then}
 use Rattle.matcher_scores.proofs.scores.correlations.Statement.{statement}
 use Rattle.matcher_scores.proofs.scores.correlations.Tie as tie
 

@@ -3,7 +3,7 @@ use mathlib.Core.Path.{_≡_, refl, ap, _∙_}
 use Prim.Native.Nat.{_+_, _-_, _*_, _/_, _≤_}
 use native.Mathlib.Omega.{arith}
 use lib.ListN.{length}
-use Rattle.matcher_scores.specs.Scores.{product, lane, lanes, onward, dot}
+use Rattle.matcher_spec.specs.Scores.{product, lane, lanes, onward, dot}
 use Rattle.matcher_scores.proofs.ScoreLaws.{lane-more, onward-none, onward-more}
 use Rattle.matcher_scores.proofs.scores.dot_product.Statement.{statement}
 use Rattle.matcher_scores.proofs.scores.dot_product.Tie as tie

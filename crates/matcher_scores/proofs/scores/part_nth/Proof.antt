@@ -3,7 +3,7 @@ use borrow.Author.Needs.{needs}
 use mathlib.Core.Path.{_∙_}
 use native.Mathlib.Nat.{add-sub-cancel-left}
 use native.Mathlib.Numerals.{add-one}
-use Rattle.matcher_scores.specs.Scores.{partAt}
+use Rattle.matcher_spec.specs.Scores.{partAt}
 use Rattle.matcher_scores.proofs.scores.part_nth.Statement.{statement}
 use Rattle.matcher_scores.proofs.scores.part_nth.Tie as tie
 

@@ -3,7 +3,7 @@ use borrow.Author.Needs.{needs}
 use mathlib.Core.Path.{_≡_}
 use Prim.Native.Nat.{_+_, _-_}
 use native.Mathlib.Omega.{arith}
-use Rattle.matcher_scores.specs.Scores.{partTerm}
+use Rattle.matcher_spec.specs.Scores.{partTerm}
 use Rattle.matcher_scores.proofs.scores.part_term.Statement.{statement}
 use Rattle.matcher_scores.proofs.scores.part_term.Tie as tie
 

@@ -3,10 +3,10 @@ use mathlib.Core.Path.{_≡_, refl}
 use Prim.Native.Nat.{_+_, _-_, _≤_}
 use native.Mathlib.Omega.{arith}
 use lib.Ieee.{ofBits}
-use Rattle.matcher_bands.specs.Rows.{sumTo}
-use Rattle.matcher_bands.specs.Energy.{bandsOf}
-use Rattle.matcher_scores.specs.Scores.{partAt, scorePart}
-use Rattle.matcher_bands.proofs.RowLaws.{row-within, sum-more}
+use Rattle.numbers_spec.specs.Rows.{sumTo}
+use Rattle.matcher_spec.specs.Energy.{bandsOf}
+use Rattle.matcher_spec.specs.Scores.{partAt, scorePart}
+use Rattle.numbers_spec.proofs.RowLaws.{row-within, sum-more}
 use Rattle.matcher_scores.proofs.scores.score_part.Statement.{statement}
 use Rattle.matcher_scores.proofs.scores.score_part.Tie as tie
 

@@ -6,11 +6,11 @@ use native.Mathlib.Omega.{arith}
 use mathlib.Core.List.{List}
 use lib.ListN.{length}
 use lib.Ieee.{Float, nan}
-use Rattle.numbers.specs.Arithmetic.{_⊕_, zero⁺}
-use Rattle.matcher_bands.specs.Rows.{tabulate, sumTo}
-use Rattle.matcher_bands.specs.Energy.{Bands, bandsOf}
-use Rattle.matcher_scores.specs.Scores.{termAt}
-use Rattle.matcher_bands.proofs.RowLaws.{tabulate-then, row-within}
+use Rattle.numbers_spec.specs.Arithmetic.{_⊕_, zero⁺}
+use Rattle.numbers_spec.specs.Rows.{tabulate, sumTo}
+use Rattle.matcher_spec.specs.Energy.{Bands, bandsOf}
+use Rattle.matcher_spec.specs.Scores.{termAt}
+use Rattle.numbers_spec.proofs.RowLaws.{tabulate-then, row-within}
 use Rattle.matcher_scores.proofs.scores.sum_bands.Statement.{statement}
 use Rattle.matcher_scores.proofs.scores.sum_bands.Tie as tie
 

@@ -1,6 +1,6 @@
 -- `matcher_scores::scores::variance_floor` meets its contract. Assumes nothing.
 use borrow.Author.Needs.{needs}
-use Rattle.matcher_scores.specs.Scores.{varianceFloor}
+use Rattle.matcher_spec.specs.Scores.{varianceFloor}
 use Rattle.matcher_scores.proofs.scores.variance_floor.Statement.{statement}
 use Rattle.matcher_scores.proofs.scores.variance_floor.Tie as tie
 

@@ -3,8 +3,8 @@ use mathlib.Core.Path.{_≡_, refl}
 use Prim.Native.Nat.{ℕ, _+_, _-_, _≤_}
 use native.Mathlib.Omega.{arith}
 use borrow.Author.Needs.{needs}
-use Rattle.matcher_bands.specs.Rows.{tabulate}
-use Rattle.matcher_scores.specs.Scores.{lane}
+use Rattle.numbers_spec.specs.Rows.{tabulate}
+use Rattle.matcher_spec.specs.Scores.{lane}
 use Rattle.matcher_scores.specs.Tiles.{laneAt}
 use Rattle.matcher_scores.proofs.PartLaws.{row-length}
 use Rattle.matcher_scores.proofs.TileLaws.{lane-row-more, added-twice}

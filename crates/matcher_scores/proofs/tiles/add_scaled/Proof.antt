@@ -3,8 +3,8 @@ use Prim.Native.Nat.{ℕ, _+_, _-_}
 use native.Mathlib.Omega.{arith}
 use lib.ListN.{getD}
 use lib.Ieee.{nan, binary32, mul}
-use Rattle.matcher_bands.specs.Energy.{_+₃₂_}
-use Rattle.matcher_bands.proofs.RowLaws.{Filling, filling-none, filling-more, filling-next}
+use Rattle.matcher_spec.specs.Energy.{_+₃₂_}
+use Rattle.numbers_spec.proofs.RowLaws.{Filling, filling-none, filling-more, filling-next}
 use Rattle.matcher_scores.proofs.PartLaws.{filling-of}
 use Rattle.matcher_scores.proofs.tiles.add_scaled.Statement.{statement}
 use Rattle.matcher_scores.proofs.tiles.add_scaled.Tie as tie

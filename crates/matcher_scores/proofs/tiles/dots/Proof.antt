@@ -3,8 +3,8 @@ use mathlib.Core.Path.{_≡_, _∙_}
 use Prim.Native.Nat.{ℕ, _+_, _-_}
 use native.Mathlib.Omega.{arith}
 use lib.ListN.{length, length-take, length-drop}
-use Rattle.matcher_bands.proofs.RowLaws.{Filling, filling-none, filling-more}
-use Rattle.matcher_scores.specs.Scores.{dot}
+use Rattle.numbers_spec.proofs.RowLaws.{Filling, filling-none, filling-more}
+use Rattle.matcher_spec.specs.Scores.{dot}
 use Rattle.matcher_scores.proofs.PartLaws.{filling-of, filling-anew, filling-part}
 use Rattle.matcher_scores.proofs.TileLaws.{placed, tile-places}
 use Rattle.matcher_scores.proofs.tiles.dots.Statement.{statement}

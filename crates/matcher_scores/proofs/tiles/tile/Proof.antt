@@ -4,8 +4,8 @@ use Prim.Native.Nat.{ℕ, _-_, _*_, _/_, _%_, _≤_}
 use native.Mathlib.Omega.{arith}
 use lib.ListN.{length, getD}
 use lib.Ieee.{Float, nan}
-use Rattle.matcher_bands.specs.Rows.{tabulate}
-use Rattle.matcher_bands.proofs.RowLaws.{Filling, filling-none, filling-more}
+use Rattle.numbers_spec.specs.Rows.{tabulate}
+use Rattle.numbers_spec.proofs.RowLaws.{Filling, filling-none, filling-more}
 use Rattle.matcher_scores.proofs.PartLaws.{filling-of, row-length, row-then}
 use Rattle.matcher_scores.proofs.TileLaws.{firstLanes, first-more, dotTo, dot-begins, dot-more, dot-ends}
 use Rattle.matcher_scores.proofs.tiles.tile.Statement.{statement}

@@ -1,7 +1,7 @@
 -- `numbers::exponential::exp` meets its contract. Assumes nothing.
 use lib.Ieee.{ofBits, neg, div}
 use borrow.Author.Needs.{needs}
-use Rattle.numbers.specs.Exponential.{expOf}
+use Rattle.numbers_spec.specs.Exponential.{expOf}
 use Rattle.numbers.proofs.exponential.exp.Statement.{statement}
 use Rattle.numbers.proofs.exponential.exp.Tie as tie
 

@@ -5,8 +5,8 @@ use native.Mathlib.Omega.{arith}
 use lib.IntN.{pos}
 use lib.Dec.{le→leb, lit≤}
 use lib.Ieee.{Float, binary64, add, mul, div, ofInt, ofBits, inFloat}
-use Rattle.numbers.specs.Arithmetic.{one}
-use Rattle.numbers.specs.Exponential.{expSeries}
+use Rattle.numbers_spec.specs.Arithmetic.{one}
+use Rattle.numbers_spec.specs.Exponential.{expSeries}
 use Rattle.numbers.proofs.exponential.exp_series.Statement.{statement}
 use Rattle.numbers.proofs.exponential.exp_series.Tie as tie
 

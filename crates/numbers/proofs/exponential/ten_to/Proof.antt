@@ -1,7 +1,7 @@
 -- `numbers::exponential::ten_to` meets its contract. Assumes nothing.
 use lib.Ieee.{ofBits}
 use borrow.Author.Needs.{needs}
-use Rattle.numbers.specs.Exponential.{tenTo}
+use Rattle.numbers_spec.specs.Exponential.{tenTo}
 use Rattle.numbers.proofs.exponential.ten_to.Statement.{statement}
 use Rattle.numbers.proofs.exponential.ten_to.Tie as tie
 

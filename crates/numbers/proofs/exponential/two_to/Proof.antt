@@ -8,9 +8,9 @@ use lib.IntN.{pos}
 use lib.Dec.{T, ltb, eqb, eqb→eq, lt→ltb, ltb→lt, lit<, lit≤}
 use lib.Ieee.{Float, nan, inf, fin, binary64, up, down, add, lt, le, ofBits, div, toUnsigned}
 use lib.Ieee.Fits.{down-pos, and-r}
-use Rattle.numbers.specs.Arithmetic.{one}
-use Rattle.numbers.specs.Exponential.{twoTo}
-use Rattle.numbers.proofs.root.Rooted.{no-nan-bits}
+use Rattle.numbers_spec.specs.Arithmetic.{one}
+use Rattle.numbers_spec.specs.Exponential.{twoTo}
+use Rattle.numbers_spec.proofs.Rooted.{no-nan-bits}
 use Rattle.numbers.proofs.exponential.two_to.Statement.{statement}
 use Rattle.numbers.proofs.exponential.two_to.Tie as tie
 

@@ -1,9 +1,9 @@
 -- `numbers::logarithm::ln` meets its contract. Assumes nothing.
 use lib.Ieee.{lt, ofBits, div}
 use borrow.Author.Needs.{needs}
-use Rattle.numbers.specs.Logarithm.{sqrt2, mantissa, exponent, logOf}
-use Rattle.numbers.proofs.logarithm.Chosen.{chosen}
-use Rattle.numbers.proofs.root.Rooted.{le-no-nan}
+use Rattle.numbers_spec.specs.Logarithm.{sqrt2, mantissa, exponent, logOf}
+use Rattle.numbers_spec.proofs.Chosen.{chosen}
+use Rattle.numbers_spec.proofs.Rooted.{le-no-nan}
 use Rattle.numbers.proofs.logarithm.ln.Statement.{statement}
 use Rattle.numbers.proofs.logarithm.ln.Tie as tie
 

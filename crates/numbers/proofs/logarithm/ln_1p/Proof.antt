@@ -1,7 +1,7 @@
 -- `numbers::logarithm::ln_1p` meets its contract. Assumes nothing.
 use lib.Ieee.{ofBits}
 use borrow.Author.Needs.{needs}
-use Rattle.numbers.specs.Logarithm.{log1pOf}
+use Rattle.numbers_spec.specs.Logarithm.{log1pOf}
 use Rattle.numbers.proofs.logarithm.ln_1p.Statement.{statement}
 use Rattle.numbers.proofs.logarithm.ln_1p.Tie as tie
 

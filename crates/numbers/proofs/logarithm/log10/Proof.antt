@@ -1,7 +1,7 @@
 -- `numbers::logarithm::log10` meets its contract. Assumes nothing.
 use lib.Ieee.{ofBits}
 use borrow.Author.Needs.{needs}
-use Rattle.numbers.specs.Logarithm.{log10Of}
+use Rattle.numbers_spec.specs.Logarithm.{log10Of}
 use Rattle.numbers.proofs.logarithm.log10.Statement.{statement}
 use Rattle.numbers.proofs.logarithm.log10.Tie as tie
 

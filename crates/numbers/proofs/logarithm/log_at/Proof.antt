@@ -2,7 +2,7 @@
 use mathlib.Core.Path.{ap}
 use lib.Ieee.{Float, binary64, mul, add, ofBits}
 use borrow.Author.Needs.{needs}
-use Rattle.numbers.specs.Exponential.{hi, lo}
+use Rattle.numbers_spec.specs.Exponential.{hi, lo}
 use Rattle.numbers.proofs.logarithm.log_at.Statement.{statement}
 use Rattle.numbers.proofs.logarithm.log_at.Tie as tie
 

@@ -6,8 +6,8 @@ use lib.IntN.{pos}
 use mathlib.Core.Bool.{false}
 use lib.Dec.{le→leb, lit≤}
 use lib.Ieee.{Float, fin, binary64, add, mul, div, ofInt, ofBits, inFloat}
-use Rattle.numbers.specs.Arithmetic.{one}
-use Rattle.numbers.specs.Logarithm.{logSeries}
+use Rattle.numbers_spec.specs.Arithmetic.{one}
+use Rattle.numbers_spec.specs.Logarithm.{logSeries}
 use Rattle.numbers.proofs.logarithm.log_series.Statement.{statement}
 use Rattle.numbers.proofs.logarithm.log_series.Tie as tie
 

@@ -2,7 +2,7 @@
 use mathlib.Core.Path.{ap}
 use lib.Ieee.{Float, binary64, mul, ofBits}
 use borrow.Author.Needs.{needs}
-use Rattle.numbers.specs.Arithmetic.{two}
+use Rattle.numbers_spec.specs.Arithmetic.{two}
 use Rattle.numbers.proofs.logarithm.log_twice.Statement.{statement}
 use Rattle.numbers.proofs.logarithm.log_twice.Tie as tie
 

@@ -3,7 +3,7 @@ use Prim.Native.Nat.{ℕ, _+_, _%_, _≤_}
 use native.Mathlib.Omega.{arith}
 use lib.Ieee.{binary64, toBits}
 use borrow.Author.Needs.{needs}
-use Rattle.numbers.proofs.root.Rooted.{no-nan-bits}
+use Rattle.numbers_spec.proofs.Rooted.{no-nan-bits}
 use Rattle.numbers.proofs.logarithm.mantissa.Statement.{statement}
 use Rattle.numbers.proofs.logarithm.mantissa.Tie as tie
 

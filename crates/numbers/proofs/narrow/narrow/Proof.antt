@@ -1,7 +1,7 @@
 -- `numbers::narrow::narrow` meets its contract. Assumes nothing.
 use mathlib.Core.Path.{_≡_, refl, sym, ap, _∙_, subst}
 use mathlib.Core.Bool.{Bool, true, false, not, true≢false, false≢true}
-use Prim.Native.Nat.{ℕ, _-_, _*_, _^_, _<_}
+use Prim.Native.Nat.{ℕ, _*_, _^_, _<_}
 use native.Mathlib.Omega.{arith}
 use lib.IntN.{pos}
 use lib.Dec.{T}
@@ -12,8 +12,8 @@ use lib.Ieee.Bits.{toBits-lt, ofBits-toBits, nanBits-is}
 use lib.Ieee.Exact.{HasValue}
 use lib.Ieee.Scale.{finite, round-same}
 use borrow.Author.Needs.{needs}
-use Rattle.numbers.specs.Narrow.{nearestF32}
-use Rattle.numbers.proofs.Encode.{round-no-nan}
+use Rattle.numbers_spec.specs.Narrow.{nearestF32}
+use Rattle.numbers_spec.proofs.Encode.{round-no-nan}
 use Rattle.numbers.proofs.narrow.narrow.Statement.{statement}
 use Rattle.numbers.proofs.narrow.narrow.Tie as tie
 

@@ -9,7 +9,7 @@ use lib.Dec.{T, ltb, ltb→lt, nltb→le}
 use lib.Pow.{pow-lt, pow-pos, pow-mono}
 use lib.Ieee.Nearest.{closest}
 use borrow.Author.Needs.{needs}
-use Rattle.numbers.proofs.Encode.{nearest-lt, nearest-gt, nearest-eq}
+use Rattle.numbers_spec.proofs.Encode.{nearest-lt, nearest-gt, nearest-eq}
 use Rattle.numbers.proofs.narrow.nearest.Statement.{statement}
 use Rattle.numbers.proofs.narrow.nearest.Tie as tie
 

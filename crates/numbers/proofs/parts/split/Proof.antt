@@ -6,7 +6,7 @@ use native.Mathlib.Omega.{arith}
 use lib.Dec.{T}
 use lib.Ieee.{binary64, fits, toBits}
 use borrow.Author.Needs.{needs}
-use Rattle.numbers.proofs.Value.{finite-no-nan, field-under, value-low, value-high}
+use Rattle.numbers_spec.proofs.Value.{finite-no-nan, field-under, value-low, value-high}
 use Rattle.numbers.proofs.parts.split.Statement.{statement}
 use Rattle.numbers.proofs.parts.split.Tie as tie
 

@@ -2,7 +2,7 @@
 use Prim.Native.Nat.{_+_, _-_, _*_, _≤_, _<_}
 use native.Mathlib.Omega.{arith}
 use borrow.Author.Needs.{needs}
-use Rattle.numbers.proofs.root.NearRoots.{narrowed-down}
+use Rattle.numbers.proofs.root.Polished.{narrowed-down}
 use Rattle.numbers.proofs.root.bisect.Statement.{statement}
 use Rattle.numbers.proofs.root.bisect.Tie as tie
 

@@ -1,7 +1,7 @@
 -- `numbers::root::guess` meets its contract: its conversions are defined, and its result is in range. Assumes nothing.
 use Prim.Native.Nat.{_-_, _/_}
 use native.Mathlib.Omega.{arith}
-use Rattle.numbers.proofs.root.Rooted.{no-nan-bits, le-no-nan}
+use Rattle.numbers_spec.proofs.Rooted.{no-nan-bits, le-no-nan}
 use borrow.Author.Needs.{needs}
 use Rattle.numbers.proofs.root.guess.Statement.{statement}
 use Rattle.numbers.proofs.root.guess.Tie as tie

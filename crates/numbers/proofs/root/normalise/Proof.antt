@@ -5,7 +5,7 @@ use native.Mathlib.Nat.{mul-one}
 use native.Mathlib.Omega.{arith}
 use lib.Count.{leading-le}
 use borrow.Author.Needs.{needs}
-use Rattle.numbers.proofs.root.Rooted.{zeros-ge, Z, Z-le, full-is, none-left}
+use Rattle.numbers_spec.proofs.Rooted.{zeros-ge, Z, Z-le, full-is, none-left}
 use Rattle.numbers.proofs.root.normalise.Statement.{statement}
 use Rattle.numbers.proofs.root.normalise.Tie as tie
 

@@ -3,7 +3,7 @@ use mathlib.Core.Path.{refl}
 use mathlib.Core.Logic.{inl, inr}
 use Prim.Native.Nat.{_+_, _*_, _^_}
 use borrow.Author.Needs.{needs}
-use Rattle.numbers.proofs.root.NearRoots.{mended, unwrapped}
+use Rattle.numbers.proofs.root.Polished.{mended, unwrapped}
 use Rattle.numbers.proofs.root.polish.Statement.{statement}
 use Rattle.numbers.proofs.root.polish.Tie as tie
 

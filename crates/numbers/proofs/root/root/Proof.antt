@@ -6,8 +6,8 @@ use native.Mathlib.Nat.{mul-pos, zero-mul, zero-lt-suc}
 use lib.Pow.{pow-pos}
 use lib.Ieee.{ofBits, div}
 use lib.Ieee.Exact.{HasValue}
-use Rattle.numbers.specs.Root.{rootUnits}
-use Rattle.numbers.proofs.root.Rooted.{finite-above, plus-above, some-above, root-positive, root-infinite, root-below, root-level, root-fits, root-no-nan, read-back, reads-no-nan}
+use Rattle.numbers_spec.specs.Root.{rootUnits}
+use Rattle.numbers_spec.proofs.Rooted.{finite-above, plus-above, some-above, root-positive, root-infinite, root-below, root-level, root-fits, root-no-nan, read-back, reads-no-nan}
 use Rattle.numbers.proofs.root.root.Statement.{statement}
 use Rattle.numbers.proofs.root.root.Tie as tie
 

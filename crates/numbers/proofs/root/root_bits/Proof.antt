@@ -3,8 +3,8 @@ use mathlib.Core.Path.{_≡_, sym, ap, _∙_, subst}
 use Prim.Native.Nat.{ℕ, _+_, _*_, _/_, _%_, _^_, _≤_, _<_}
 use native.Mathlib.Omega.{arith}
 use borrow.Author.Needs.{needs}
-use Rattle.numbers.specs.Root.{NearRoot}
-use Rattle.numbers.proofs.root.Rooted.{F-ge, F-lt, c-le, root-bits-is}
+use Rattle.numbers_spec.specs.Root.{NearRoot}
+use Rattle.numbers_spec.proofs.Rooted.{F-ge, F-lt, c-le, root-bits-is}
 use Rattle.numbers.proofs.root.root_bits.Statement.{statement}
 use Rattle.numbers.proofs.root.root_bits.Tie as tie
 

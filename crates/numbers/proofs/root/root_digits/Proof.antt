@@ -4,7 +4,7 @@ use mathlib.Core.Logic.{_⊎_, inl, inr}
 use Prim.Native.Nat.{ℕ, zero, suc, _+_, _*_, _/_, _%_, _^_, _≤_, _<_}
 use native.Mathlib.Omega.{arith}
 use borrow.Author.Needs.{needs}
-use Rattle.numbers.specs.Root.{NearRoot}
+use Rattle.numbers_spec.specs.Root.{NearRoot}
 use Rattle.numbers.proofs.root.root_digits.Statement.{statement}
 use Rattle.numbers.proofs.root.root_digits.Tie as tie
 

@@ -1,7 +1,7 @@
 -- `numbers::square::square` meets its contract. Assumes nothing.
 use native.Mathlib.Omega.{arith}
 use borrow.Author.Needs.{needs}
-use Rattle.numbers.proofs.root.NearRoots.{squared, square-parts}
+use Rattle.numbers.proofs.root.Polished.{squared, square-parts}
 use Rattle.numbers.proofs.square.square.Statement.{statement}
 use Rattle.numbers.proofs.square.square.Tie as tie
 

@@ -2,7 +2,7 @@
 use mathlib.Core.Path.{ap, _∙_}
 use lib.Ieee.{neg}
 use borrow.Author.Needs.{needs}
-use Rattle.numbers.proofs.whole.Fractions.{above-is}
+use Rattle.numbers_spec.proofs.WholeLaws.{above-is}
 use Rattle.numbers.proofs.whole.ceil.Statement.{statement}
 use Rattle.numbers.proofs.whole.ceil.Tie as tie
 

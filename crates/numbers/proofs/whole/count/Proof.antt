@@ -10,7 +10,7 @@ use lib.Ieee.{Float, nan, inf, fin, up, down, lt, le, ofBits, toUnsigned}
 use lib.Ieee.Fits.{down-pos, and-r}
 use borrow.Author.Needs.{needs}
 use borrow.Author.Tests.{ltb-false, eqb-false}
-use Rattle.numbers.specs.Arithmetic.{one, countOf}
+use Rattle.numbers_spec.specs.Arithmetic.{one, countOf}
 use Rattle.numbers.proofs.whole.count.Statement.{statement}
 use Rattle.numbers.proofs.whole.count.Tie as tie
 

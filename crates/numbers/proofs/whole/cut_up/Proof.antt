@@ -5,7 +5,7 @@ use native.Mathlib.Nat.{div-le-self}
 use native.Mathlib.Omega.{arith}
 use lib.Pow.{pow-pos}
 use borrow.Author.Needs.{needs}
-use Rattle.numbers.specs.Whole.{upward}
+use Rattle.numbers_spec.specs.Whole.{upward}
 use Rattle.numbers.proofs.whole.Fractions.{upward-zero, upward-pred}
 use Rattle.numbers.proofs.whole.cut_up.Statement.{statement}
 use Rattle.numbers.proofs.whole.cut_up.Tie as tie

@@ -5,7 +5,7 @@ use Prim.Native.Nat.{ℕ, _-_, _/_, _^_, _≤_}
 use lib.Dec.{T}
 use lib.Ieee.{binary64, round, fits}
 use borrow.Author.Needs.{needs}
-use Rattle.numbers.specs.Whole.{upward}
+use Rattle.numbers_spec.specs.Whole.{upward}
 use Rattle.numbers.proofs.whole.Fractions.{below-small, below-large, below-other, cut-le, upward-le}
 use Rattle.numbers.proofs.whole.floor.Statement.{statement}
 use Rattle.numbers.proofs.whole.floor.Tie as tie

@@ -3,7 +3,7 @@ use mathlib.Core.Path.{sym, ap, _∙_}
 use mathlib.Core.Bool.{Bool}
 use lib.Dec.{le→leb}
 use lib.Ieee.{binary64, inFloat, ofInt, round}
-use Rattle.numbers.proofs.Sign.{neg-round}
+use Rattle.numbers_spec.proofs.Sign.{neg-round}
 use Rattle.numbers.proofs.whole.signed.Statement.{statement}
 use Rattle.numbers.proofs.whole.signed.Tie as tie
 

@@ -1,4 +1,0 @@
-pub mod Rows
-pub mod Timeline
-pub mod Centring
-pub mod Energy

@@ -1,0 +1,3 @@
+// The matcher: its types, definitions of index and searches, and their theorems. Statements in
+// specs/, proofs in proofs/; the code stands in the crates above.
+pub mod types;

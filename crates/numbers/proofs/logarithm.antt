@@ -1,2 +1,0 @@
--- What the proofs of the logarithms share.
-pub mod Chosen

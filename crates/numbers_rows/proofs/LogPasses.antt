@@ -1,0 +1,186 @@
+-- What the passes over a row of logarithms share: that numbers below plus infinity go through them, one more place of a row, and that what the passes give is `ln_1p`. Assumes nothing.
+use mathlib.Core.Path.{_≡_, refl, sym, subst, ap, _∙_}
+use mathlib.Core.Bool.{Bool, Bool·beq, true, false, cond, not, _&&_}
+use mathlib.Core.List.{List}
+use Prim.Native.Nat.{ℕ, zero, suc, _+_, _-_, _*_, _≤_, _<_}
+use native.Mathlib.Nat.{zero-lt-suc, not-suc-le-zero, lt-irrefl, lt-of-lt-of-le, sub-zero, zero-add, add-zero, zero-mul, mul-one, one-mul}
+use native.Mathlib.Omega.{arith}
+use borrow.Author.Tests.{lt-ltb}
+use borrow.Author.Count.{below-more}
+use lib.Dec.{T, ltb, ltb→lt, nltb→le}
+use lib.IntN.{pos}
+use lib.ListN.{getD, length, set}
+use lib.Seq.{ext-getD, getD-set-same, getD-set-other}
+use lib.Ieee.{Float, nan, inf, fin, binary32, binary64, up, down, sum, round, add, mul, neg, lt, le, ofBits, ofInt, fits, isNan}
+use lib.Ieee.Fits.{mul-fits}
+use Rattle.numbers_spec.specs.Arithmetic.{_⊕_, _⊖_, _⊗_, _⊘_, zero⁺, one, two}
+use Rattle.numbers_spec.specs.Exponential.{hi, lo}
+use Rattle.numbers_spec.specs.Logarithm.{sqrt2, seriesMost, mantissa, exponent, logSeries, logTwice, logOf, log1pWide, log1pOf}
+use Rattle.numbers_spec.specs.Narrow.{nearestF32}
+use Rattle.numbers_spec.proofs.Encode.{round-no-nan}
+use Rattle.numbers_spec.proofs.Chosen.{chosen}
+use Rattle.numbers_spec.specs.Values.{Normal}
+use Rattle.numbers_spec.proofs.Order.{lt→le, not-le→lt, le-transitive}
+use Rattle.numbers_spec.proofs.Placed.{round-own}
+use Rattle.numbers_spec.proofs.LogLaws.{log-is}
+use Rattle.numbers_spec.proofs.Log1p.{one-more-normal}
+use Rattle.numbers_spec.proofs.RowLaws.{length-logs, log-at}
+use Rattle.numbers_rows.specs.Logs.{Below, AllBelow, Holds, Logged, nearOne, power, ratio, terms, joined}
+use Rattle.numbers_spec.specs.Rows.{logsOf}
+
+-- ---- below plus infinity: neither it nor 1 + it is a NaN
+pub below-number : (w : Float) → Below w → T (not (isNan w))
+unfolding lt isNan
+below-number nan b = absurd b
+below-number (inf s) b = tt
+below-number (fin s m e) b = tt
+
+either-no-nan : (b : Bool) (x y : Float) → isNan x ≡ false → isNan y ≡ false → isNan (cond b x y) ≡ false
+either-no-nan true x y h k = h
+either-no-nan false x y h k = k
+
+sum-no-nan : (s : Bool) (a : ℕ) (t : Bool) (b c : ℕ) → isNan (sum binary64 s a t b c) ≡ false
+unfolding sum
+sum-no-nan s a t b c =
+    either-no-nan (Bool·beq s t) (round binary64 s (a + b) c) (cond (ltb a b) (round binary64 t (b - a) c) (round binary64 (s && ltb b a) (a - b) c))
+    (round-no-nan binary64 s (a + b) c)
+    (either-no-nan (ltb a b) (round binary64 t (b - a) c) (round binary64 (s && ltb b a) (a - b) c) (round-no-nan binary64 t (b - a) c) (round-no-nan binary64 (s && ltb b a) (a - b) c))
+
+pub one-more-number : (w : Float) → Below w → T (not (isNan (one ⊕ w)))
+unfolding lt isNan add
+one-more-number nan b = absurd b
+one-more-number (inf s) b = tt
+one-more-number (fin s m e) b = subst (λ (n : Bool). T (not n)) (sym (sum-no-nan false (1 * down e) s (m * up e * 1) (1 * down e))) tt
+
+-- the same of an x that is w
+pub one-more-of : (x w : Float) → x ≡ w → Below w → T (not (isNan (one ⊕ x)))
+one-more-of x w e b = subst (λ (y : Float). T (not (isNan (one ⊕ y)))) (sym e) (one-more-number w b)
+
+-- ---- one more place of a row
+pub holds-more : (g : ℕ → Float) (n : ℕ) (row : List Float) {v : Float} → ((k : ℕ) → k < n → getD row k nan ≡ g k) → v ≡ g n → n < length row
+    → (k : ℕ) → k < n + 1 → getD (set row n v) k nan ≡ g k
+holds-more g n row {v} h e l =
+    below-more (λ (k : ℕ). getD (set row n v) k nan ≡ g k) n
+    (λ k b. getD-set-other row n k v nan (λ q. lt-irrefl n (subst (λ (x : ℕ). x < n) q b)) ∙ h k b)
+    (getD-set-same row n v nan l ∙ e)
+
+-- nothing is asked of no place
+pub none : {A : Type 0} {k : ℕ} → k < 0 → A
+none l = absurd (not-suc-le-zero l)
+
+-- one more place behind the first `at`, which stay
+pub holds-behind : (g : ℕ → Float) (at n : ℕ) (row : List Float) {v : Float} → ((k : ℕ) → k < n → getD row (at + k) nan ≡ g k) → v ≡ g n → at + n < length row
+    → (k : ℕ) → k < n + 1 → getD (set row (at + n) v) (at + k) nan ≡ g k
+holds-behind g at n row {v} h e l =
+    below-more (λ (k : ℕ). getD (set row (at + n) v) (at + k) nan ≡ g k) n
+    (λ k b. getD-set-other row (at + n) (at + k) v nan (λ q. lt-irrefl n (omega (arith, q, b))) ∙ h k b)
+    (getD-set-same row (at + n) v nan l ∙ e)
+
+pub kept-before : (at n : ℕ) (row old : List Float) (v : Float) → ((k : ℕ) → k < at → getD row k nan ≡ getD old k nan) → (k : ℕ) → k < at → getD (set row (at + n) v) k nan ≡ getD old k nan
+kept-before at n row old v h k b = getD-set-other row (at + n) k v nan (λ q. lt-irrefl at (omega (arith, q, b))) ∙ h k b
+
+-- all places hold their logarithm
+pub logged-all : (w : List Float) (n : ℕ) (row : List Float) → Logged w n row → length row ≡ length w → length w ≤ n → row ≡ logsOf w
+logged-all w n row h e l = ext-getD nan row (logsOf w) (e ∙ sym (length-logs w)) (λ k b. h k (lt-of-lt-of-le (subst (λ (x : ℕ). k < x) e b) l) ∙ sym (log-at w k))
+
+-- ---- -0 changes no sum
+minus-zero-sum : (a c : ℕ) → cond (ltb 0 a) (round binary64 false (a - 0) c) (round binary64 (true && ltb a 0) (0 - a) c) ≡ round binary64 false a c
+minus-zero-sum zero c = refl
+minus-zero-sum (suc a) c = rw (lt-ltb 0 (suc a) (zero-lt-suc a), sub-zero (suc a)) refl
+
+minus-zero-add : (t : Float) → T (fits binary64 t) → neg zero⁺ ⊕ t ≡ t
+unfolding add neg sum
+minus-zero-add nan F = refl
+minus-zero-add (inf s) F = refl
+minus-zero-add (fin true m e) F = rw (zero-mul (down e), mul-one (m * up e), one-mul (down e), zero-add (m * up e)) (round-own binary64 true m e F)
+minus-zero-add (fin false m e) F = rw (zero-mul (down e), mul-one (m * up e), one-mul (down e)) (minus-zero-sum (m * up e) (down e) ∙ round-own binary64 false m e F)
+
+minus-zero-hi : neg zero⁺ ⊗ hi ≡ neg zero⁺
+unfolding neg mul ofBits round
+minus-zero-hi = refl
+
+minus-zero-lo : neg zero⁺ ⊗ lo ≡ neg zero⁺
+unfolding neg mul ofBits round
+minus-zero-lo = refl
+
+-- ---- the twelve terms, by fours
+pub terms-are : (z : Float) → terms 4 0 z (terms 4 4 z (terms 4 8 z zero⁺)) ≡ logSeries 12 z zero⁺
+unfolding terms logSeries
+terms-are z = refl
+
+abbrev part : ℕ → Float
+part i = one ⊘ ofInt binary64 (pos (2 * i + 1))
+
+pub four-are : (i : ℕ) (z q : Float) {a b c d : Float} → a ≡ part (i + 3) → b ≡ part (i + 2) → c ≡ part (i + 1) → d ≡ part i → (((q ⊗ z ⊕ a) ⊗ z ⊕ b) ⊗ z ⊕ c) ⊗ z ⊕ d ≡ terms 4 i z q
+unfolding terms
+four-are i z q a b c d = rw (add-zero i) (λ j. (((q ⊗ z ⊕ a j) ⊗ z ⊕ b j) ⊗ z ⊕ c j) ⊗ z ⊕ d j)
+
+-- ---- what the passes give of one w
+abbrev pub ratioOf : Float → Float
+ratioOf w = ratio w (nearOne w)
+
+abbrev pub seriesOf : Float → Float
+seriesOf s = logSeries 12 (s ⊗ s) zero⁺
+
+small-is : (t : Float) → T (fits binary64 t) → neg zero⁺ ⊗ hi ⊕ (neg zero⁺ ⊗ lo ⊕ t) ≡ t
+small-is t F = rw (minus-zero-hi, minus-zero-lo, minus-zero-add t F) (minus-zero-add t F)
+
+-- above 0.375, 1 + w is normal
+large-normal : (w : Float) → T (fits binary32 w) → Below w → T (not (le w seriesMost)) → Normal (one ⊕ w)
+large-normal nan F b h = absurd (unfold lt in b)
+large-normal (inf true) F b h = absurd (unfold le ofBits in h)
+large-normal (inf false) F b h = absurd (unfold lt in b)
+large-normal (fin s m e) F b h =
+    let w = fin s m e in
+    one-more-normal w F tt (le-transitive zero⁺ seriesMost w (unfold le ofBits in tt) (lt→le seriesMost w (not-le→lt seriesMost w (unfold isNan ofBits in tt) (below-number w b) h)))
+
+pub wide-is : (w : Float) → T (fits binary32 w) → Below w → joined (power w) (ratioOf w) (seriesOf (ratioOf w)) ≡ log1pWide w
+unfolding joined power ratio nearOne
+wide-is w F b = go (le w seriesMost) (large-normal w F b)
+  where
+    v : Float
+    v = one ⊕ w
+
+    m : Float
+    m = nearOne w
+
+    e : Float
+    e = cond (lt sqrt2 (mantissa v)) (exponent v ⊕ one) (exponent v)
+
+    r : Bool → Float
+    r small = cond small w (m ⊖ one) ⊘ cond small (two ⊕ w) (m ⊕ one)
+
+    go : (small : Bool) → (T (not small) → Normal v)
+        → cond small (neg zero⁺) e ⊗ hi ⊕ (cond small (neg zero⁺) e ⊗ lo ⊕ two ⊗ (r small ⊗ seriesOf (r small))) ≡ cond small (logTwice (w ⊘ (two ⊕ w))) (logOf v)
+    go true n = small-is (logTwice (w ⊘ (two ⊕ w))) (mul-fits binary64 two _)
+    go false n = chosen (lt sqrt2 (mantissa v)) (mantissa v) (exponent v) ∙ sym (log-is v (n tt))
+
+-- ---- what a block adds to the logarithms that stand before it
+pub record Passed (w : List Float) (at n : ℕ) (powers ratios sums near logs : List Float) : Type 0 where
+  pub powers-are : Holds power w at n powers
+  pub ratios-are : Holds ratioOf w at n ratios
+  pub sums-are : (k : ℕ) → k < n → getD sums k nan ≡ seriesOf (getD ratios k nan)
+  pub joined-are : (k : ℕ) → k < n → getD near k nan ≡ joined (getD powers k nan) (getD ratios k nan) (getD sums k nan)
+  pub narrow-are : (k : ℕ) → k < n → getD logs (at + k) nan ≡ nearestF32 (getD near k nan)
+
+module _ (w : List Float) (at n : ℕ) (powers ratios sums near logs : List Float) (F : (k : ℕ) → T (fits binary32 (getD w k nan))) (b : AllBelow w) (room : at + n ≤ length w) (p : Passed w at n powers ratios sums near logs) where
+  behind : (k : ℕ) → k < n → getD logs (at + k) nan ≡ log1pOf (getD w (at + k) nan)
+  unfolding log1pOf
+  behind k l =
+      let x = getD w (at + k) nan in
+      let s = p .ratios-are k l in
+      p .narrow-are k l
+      ∙ ap nearestF32
+      (p .joined-are k l
+      ∙ (λ i. joined (p .powers-are k l i) (s i) ((p .sums-are k l ∙ ap seriesOf s) i))
+      ∙ wide-is x (F (at + k)) (b (at + k) (omega (arith, room, l))))
+
+  pub block-logged : (before : (k : ℕ) → k < at → getD logs k nan ≡ log1pOf (getD w k nan)) → Logged w (at + n) logs
+  block-logged before k l = go (ltb k at) refl
+    where
+      go : (t : Bool) → ltb k at ≡ t → getD logs k nan ≡ log1pOf (getD w k nan)
+      go true h = before k (ltb→lt k at (subst T (sym h) tt))
+      go false h =
+          let g : at ≤ k = nltb→le k at (subst (λ (t : Bool). T (not t)) (sym h) tt) in
+          let e : at + (k - at) ≡ k = omega (arith, g) in
+          subst (λ (x : ℕ). getD logs x nan ≡ log1pOf (getD w x nan)) e (behind (k - at) (omega (arith, l, g)))
