@@ -35,8 +35,8 @@ impl Kept {
 pub struct Rows {
     pub fine: Vec<f32>,
     pub coarse: Vec<f32>,
-    pub fine_squares: Vec<f64>,
-    pub coarse_squares: Vec<f64>,
+    pub fine_energy: Vec<f64>,
+    pub coarse_energy: Vec<f64>,
 }
 
 pub trait Running {
@@ -75,8 +75,8 @@ macro_rules! running {
                 self.matcher.as_ref().map(|matcher| $crate::running::Rows {
                     fine: matcher.fine.values.concat(),
                     coarse: matcher.coarse.values.concat(),
-                    fine_squares: matcher.fine.energy.concat(),
-                    coarse_squares: matcher.coarse.energy.concat(),
+                    fine_energy: matcher.fine.energy.concat(),
+                    coarse_energy: matcher.coarse.energy.concat(),
                 })
             }
 
@@ -85,8 +85,8 @@ macro_rules! running {
                 if let Some(matcher) = &mut self.matcher {
                     refill(&mut matcher.fine.values, &rows.fine);
                     refill(&mut matcher.coarse.values, &rows.coarse);
-                    refill(&mut matcher.fine.energy, &rows.fine_squares);
-                    refill(&mut matcher.coarse.energy, &rows.coarse_squares);
+                    refill(&mut matcher.fine.energy, &rows.fine_energy);
+                    refill(&mut matcher.coarse.energy, &rows.coarse_energy);
                 }
             }
 

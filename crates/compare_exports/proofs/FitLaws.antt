@@ -42,25 +42,25 @@ limits bands frames hop h =
     record { some = ltb-true _ _ (p .0); most = leb-true _ _ (q .0); short = leb-true _ _ (r .0); wide = s .0 }
 
 -- Slices that hold n values a band, and their energies.
-pub record Held (bands n values squares : ℕ) : Type 0 where
+pub record Held (bands n values energy : ℕ) : Type 0 where
   pub all : bands * n ≤ values
-  pub sums : bands * (n + 1) ≤ squares
+  pub sums : bands * (n + 1) ≤ energy
 
-pub held : (bands n values squares : ℕ) → fitsBands bands n values squares ≡ true → Held bands n values squares
+pub held : (bands n values energy : ℕ) → fitsBands bands n values energy ≡ true → Held bands n values energy
 unfolding fitsBands
-held bands n values squares h = let p = both _ _ h in record { all = leb-true _ _ (p .0); sums = leb-true _ _ (p .1) }
+held bands n values energy h = let p = both _ _ h in record { all = leb-true _ _ (p .0); sums = leb-true _ _ (p .1) }
 
 -- Slices that can be filled.
-pub record Fillable (hop : Float) (bands times values fine coarse fineSquares coarseSquares : ℕ) : Type 0 where
+pub record Fillable (hop : Float) (bands times values fine coarse fineEnergy coarseEnergy : ℕ) : Type 0 where
   pub reference : Limits bands times hop
   pub whole : values ≡ bands * times
-  pub fines : Held bands times fine fineSquares
-  pub coarses : Held bands (times / 4) coarse coarseSquares
+  pub fines : Held bands times fine fineEnergy
+  pub coarses : Held bands (times / 4) coarse coarseEnergy
 
-pub fillable : (hop : Float) (bands times values fine coarse fineSquares coarseSquares : ℕ)
-    → fitsFillLengths hop bands times values fine coarse fineSquares coarseSquares ≡ true → Fillable hop bands times values fine coarse fineSquares coarseSquares
+pub fillable : (hop : Float) (bands times values fine coarse fineEnergy coarseEnergy : ℕ)
+    → fitsFillLengths hop bands times values fine coarse fineEnergy coarseEnergy ≡ true → Fillable hop bands times values fine coarse fineEnergy coarseEnergy
 unfolding fitsFillLengths
-fillable hop bands times values fine coarse fineSquares coarseSquares h =
+fillable hop bands times values fine coarse fineEnergy coarseEnergy h =
     let p = both _ _ h in
     let q = both _ _ (p .1) in
     let r = both _ _ (q .1) in
@@ -84,16 +84,16 @@ windowed frames bands times values work32 work64 h =
     record { most = leb-true _ _ (p .0); short = leb-true _ _ (q .0); whole = eqb-true _ _ (r .0); first = leb-true _ _ (s .0); second = leb-true _ _ (s .1) }
 
 -- Slices that do for a local search.
-pub record Room (x : Reference) (fine squares bands times values work32 work64 out : ℕ) : Type 0 where
+pub record Room (x : Reference) (fine energy bands times values work32 work64 out : ℕ) : Type 0 where
   pub reference : Limits (x .bands) (x .frames) (x .«hop_ms»)
   pub window : Windowed (x .frames) bands times values work32 work64
-  pub index : Held (x .bands) (x .frames) fine squares
+  pub index : Held (x .bands) (x .frames) fine energy
   pub numbers : 40 ≤ out
 
-pub room : (x : Reference) (fine squares bands times values work32 work64 out : ℕ) → fitsLocalLengths x fine squares bands times values work32 work64 out ≡ true
-    → Room x fine squares bands times values work32 work64 out
+pub room : (x : Reference) (fine energy bands times values work32 work64 out : ℕ) → fitsLocalLengths x fine energy bands times values work32 work64 out ≡ true
+    → Room x fine energy bands times values work32 work64 out
 unfolding fitsLocalLengths
-room x fine squares bands times values work32 work64 out h =
+room x fine energy bands times values work32 work64 out h =
     let p = both _ _ h in
     let q = both _ _ (p .1) in
     let r = both _ _ (q .1) in

@@ -8,7 +8,8 @@ use lib.Ieee.{Float, le}
 use Rattle.numbers_spec.specs.Arithmetic.{one}
 use Rattle.matcher_spec.specs.Candidates.{resultOf}
 use Rattle.matcher_spec.specs.Index.{acceptsReference, filled, lentBands, lentMatcher, matcherOf}
-use Rattle.matcher_spec.specs.Search.{Window, localSearch, recentMs, wholeSearch}
+use Rattle.matcher_spec.specs.Search.{localSearch, recentMs, wholeSearch}
+use Rattle.matcher_spec.specs.Features.{Features}
 use Rattle.matcher_spec.specs.declared.types.Candidate.{Candidate}
 use Rattle.matcher_spec.specs.declared.types.Reference.{Reference}
 
@@ -22,7 +23,7 @@ fitsLimits bands frames hop = ltb 0 bands && (leb bands 64 && (leb frames 65535 
 
 -- The lengths of a slice with n values a band and of one with their energies.
 unfoldable pub fitsBands : ℕ → ℕ → ℕ → ℕ → Bool
-fitsBands bands n values squares = leb (bands * n) values && leb (bands * (n + 1)) squares
+fitsBands bands n values energy = leb (bands * n) values && leb (bands * (n + 1)) energy
 
 -- The lengths of a window's slices and of the working buffers (document 01, refusals 10, 11 and 13).
 unfoldable pub fitsWindow : ℕ → ℕ → ℕ → ℕ → ℕ → ℕ → Bool
@@ -34,22 +35,22 @@ fitsWindow frames bands times values work32 work64 =
 pub record Buffers : Type 0 where
   pub fine : List Float
   pub coarse : List Float
-  pub fineSquares : List Float
-  pub coarseSquares : List Float
+  pub fineEnergy : List Float
+  pub coarseEnergy : List Float
 
 abbrev pub buffers : List Float → List Float → List Float → List Float → Buffers
-buffers fine coarse fineSquares coarseSquares = record { fine = fine; coarse = coarse; fineSquares = fineSquares; coarseSquares = coarseSquares }
+buffers fine coarse fineEnergy coarseEnergy = record { fine = fine; coarse = coarse; fineEnergy = fineEnergy; coarseEnergy = coarseEnergy }
 
 -- Whether the numbers are within their limits, and slices of these lengths long enough.
 unfoldable pub fitsFillLengths : Float → ℕ → ℕ → ℕ → ℕ → ℕ → ℕ → ℕ → Bool
-fitsFillLengths hop bands times values fine coarse fineSquares coarseSquares =
+fitsFillLengths hop bands times values fine coarse fineEnergy coarseEnergy =
     fitsLimits bands times hop
-    && (eqb values (bands * times) && (fitsBands bands times fine fineSquares && fitsBands bands (times / 4) coarse coarseSquares))
+    && (eqb values (bands * times) && (fitsBands bands times fine fineEnergy && fitsBands bands (times / 4) coarse coarseEnergy))
 
 -- Whether the index can be filled.
 abbrev pub fitsFill : Float → ℕ → List Float → List Float → Buffers → Bool
 fitsFill hop bands times values old =
-    fitsFillLengths hop bands (length times) (length values) (length (old .fine)) (length (old .coarse)) (length (old .fineSquares)) (length (old .coarseSquares))
+    fitsFillLengths hop bands (length times) (length values) (length (old .fine)) (length (old .coarse)) (length (old .fineEnergy)) (length (old .coarseEnergy))
 
 -- 1 where the index is filled, 0 where the reference is rejected.
 unfoldable pub fillAnswer : Float → ℕ → List Float → List Float → Buffers → ℕ
@@ -64,8 +65,8 @@ filledBuffers hop bands times values old =
     buffers
     (filled fills (m .fine .values) (old .fine))
     (filled fills (m .coarse .values) (old .coarse))
-    (filled fills (m .fine .squares) (old .fineSquares))
-    (filled fills (m .coarse .squares) (old .coarseSquares))
+    (filled fills (m .fine .energy) (old .fineEnergy))
+    (filled fills (m .coarse .energy) (old .coarseEnergy))
 
 -- ---- searches
 -- The numbers of candidates, five each.
@@ -86,25 +87,25 @@ referenceOf bands frames start hop = record { bands = bands; frames = frames; «
 
 -- Whether slices of these lengths do for a local search: the reference's limits, the window with the working buffers, the fine half of the index, and 40 numbers.
 unfoldable pub fitsLocalLengths : Reference → ℕ → ℕ → ℕ → ℕ → ℕ → ℕ → ℕ → ℕ → Bool
-fitsLocalLengths x fine squares bands times values work32 work64 out =
+fitsLocalLengths x fine energy bands times values work32 work64 out =
     fitsLimits (x .bands) (x .frames) (x .«hop_ms»)
-    && (fitsWindow (x .frames) bands times values work32 work64 && (fitsBands (x .bands) (x .frames) fine squares && leb 40 out))
+    && (fitsWindow (x .frames) bands times values work32 work64 && (fitsBands (x .bands) (x .frames) fine energy && leb 40 out))
 
 -- Whether a local search fits.
-abbrev pub fitsLocal : Reference → List Float → List Float → Window → ℕ → ℕ → ℕ → Bool
-fitsLocal x fine squares w work32 work64 out =
-    fitsLocalLengths x (length fine) (length squares) (w .bands) (length (w .times)) (length (w .values)) work32 work64 out
+abbrev pub fitsLocal : Reference → List Float → List Float → Features → ℕ → ℕ → ℕ → Bool
+fitsLocal x fine energy w work32 work64 out =
+    fitsLocalLengths x (length fine) (length energy) (w .bands) (length (w .times)) (length (w .values)) work32 work64 out
 
 -- Whether a whole search fits: the same, and the coarse half of the index.
-unfoldable pub fitsWhole : Reference → Buffers → Window → ℕ → ℕ → ℕ → Bool
+unfoldable pub fitsWhole : Reference → Buffers → Features → ℕ → ℕ → ℕ → Bool
 fitsWhole x index w work32 work64 out =
-    fitsLocal x (index .fine) (index .fineSquares) w work32 work64 out
-    && fitsBands (x .bands) (x .frames / 4) (length (index .coarse)) (length (index .coarseSquares))
+    fitsLocal x (index .fine) (index .fineEnergy) w work32 work64 out
+    && fitsBands (x .bands) (x .frames / 4) (length (index .coarse)) (length (index .coarseEnergy))
 
 -- The whole search over the buffers.
-abbrev pub foundIn : Reference → Buffers → Window → List Candidate
-foundIn x index w = wholeSearch (lentMatcher x (index .fine) (index .coarse) (index .fineSquares) (index .coarseSquares)) w
+abbrev pub foundIn : Reference → Buffers → Features → List Candidate
+foundIn x index w = wholeSearch (lentMatcher x (index .fine) (index .coarse) (index .fineEnergy) (index .coarseEnergy)) w
 
 -- The local search over the fine half.
-abbrev pub foundNear : Reference → List Float → List Float → Window → Float → Float → List Candidate
-foundNear x fine squares w lower upper = localSearch x (lentBands (x .bands) (x .frames) fine squares) w lower upper
+abbrev pub foundNear : Reference → List Float → List Float → Features → Float → Float → List Candidate
+foundNear x fine energy w lower upper = localSearch x (lentBands (x .bands) (x .frames) fine energy) w lower upper

@@ -5,7 +5,7 @@ ghost use lib.ListN.{drop, length};
 ghost use mathlib.Core.List.{_++_};
 ghost use mathlib.Core.Path.{_≡_};
 ghost use Rattle.compare_exports.specs.MatcherCalls.{buffers, counted, fillAnswer, filledBuffers, fitsBands, fitsFillLengths, fitsLimits, fitsLocal, fitsLocalLengths, fitsWhole, fitsWindow, foundIn, foundNear, numbersOf, referenceOf, written};
-ghost use Rattle.matcher_spec.specs.Search.{windowOf};
+ghost use Rattle.matcher_spec.specs.Features.{features};
 use matcher::index::fill_index;
 use matcher::search::local_search;
 use matcher::search::whole_search;
@@ -26,11 +26,11 @@ fn fits_limits(bands: usize, frames: usize, hop: f64) -> bool
 }
 
 // Whether slices of these lengths hold n values a band, and their energies.
-fn fits_bands(bands: usize, n: usize, values: usize, squares: usize) -> bool
+fn fits_bands(bands: usize, n: usize, values: usize, energy: usize) -> bool
     requires { ⌜ bands ≤ 64 ⌝ ∗ ⌜ n ≤ 65535 ⌝ }
-    ensures { λ r. ⌜ r ≡ fitsBands bands n values squares ⌝ }
+    ensures { λ r. ⌜ r ≡ fitsBands bands n values energy ⌝ }
 {
-    (bands * n <= values) & (bands * (n + 1) <= squares)
+    (bands * n <= values) & (bands * (n + 1) <= energy)
 }
 
 // Whether the lengths of a window's slices and of the working buffers are enough.
@@ -63,17 +63,17 @@ fn fits_fill(
     values: usize,
     fine: usize,
     coarse: usize,
-    fine_squares: usize,
-    coarse_squares: usize,
+    fine_energy: usize,
+    coarse_energy: usize,
 ) -> bool
-    ensures { λ r. ⌜ r ≡ fitsFillLengths hop bands times values fine coarse «fine_squares» «coarse_squares» ⌝ }
+    ensures { λ r. ⌜ r ≡ fitsFillLengths hop bands times values fine coarse «fine_energy» «coarse_energy» ⌝ }
 {
     if !fits_limits(bands, times, hop) {
         return false;
     }
     (values == bands * times)
-        & (fits_bands(bands, times, fine, fine_squares)
-            & fits_bands(bands, times / 4, coarse, coarse_squares))
+        & (fits_bands(bands, times, fine, fine_energy)
+            & fits_bands(bands, times / 4, coarse, coarse_energy))
 }
 
 // Fills the index and answers 1, or answers 0 where the reference is rejected.
@@ -81,18 +81,18 @@ fn fits_fill(
 pub extern "C" fn matcher_fill_index(
     fine: &mut [f32],
     coarse: &mut [f32],
-    fine_squares: &mut [f64],
-    coarse_squares: &mut [f64],
+    fine_energy: &mut [f64],
+    coarse_energy: &mut [f64],
     bands: usize,
     hop: f64,
     times: &[f64],
     values: &[f32],
 ) -> usize
-    ensures { λ r. ⌜ r ≡ fillAnswer hop bands (now (times .entry)) (now (values .entry)) (buffers (now (fine .entry)) (now (coarse .entry)) (now («fine_squares» .entry)) (now («coarse_squares» .entry))) ⌝ }
-    ensures { λ _. ⌜ now (fine .exit) ≡ filledBuffers hop bands (now (times .entry)) (now (values .entry)) (buffers (now (fine .entry)) (now (coarse .entry)) (now («fine_squares» .entry)) (now («coarse_squares» .entry))) .fine ⌝ }
-    ensures { λ _. ⌜ now (coarse .exit) ≡ filledBuffers hop bands (now (times .entry)) (now (values .entry)) (buffers (now (fine .entry)) (now (coarse .entry)) (now («fine_squares» .entry)) (now («coarse_squares» .entry))) .coarse ⌝ }
-    ensures { λ _. ⌜ now («fine_squares» .exit) ≡ filledBuffers hop bands (now (times .entry)) (now (values .entry)) (buffers (now (fine .entry)) (now (coarse .entry)) (now («fine_squares» .entry)) (now («coarse_squares» .entry))) .fineSquares ⌝ }
-    ensures { λ _. ⌜ now («coarse_squares» .exit) ≡ filledBuffers hop bands (now (times .entry)) (now (values .entry)) (buffers (now (fine .entry)) (now (coarse .entry)) (now («fine_squares» .entry)) (now («coarse_squares» .entry))) .coarseSquares ⌝ }
+    ensures { λ r. ⌜ r ≡ fillAnswer hop bands (now (times .entry)) (now (values .entry)) (buffers (now (fine .entry)) (now (coarse .entry)) (now («fine_energy» .entry)) (now («coarse_energy» .entry))) ⌝ }
+    ensures { λ _. ⌜ now (fine .exit) ≡ filledBuffers hop bands (now (times .entry)) (now (values .entry)) (buffers (now (fine .entry)) (now (coarse .entry)) (now («fine_energy» .entry)) (now («coarse_energy» .entry))) .fine ⌝ }
+    ensures { λ _. ⌜ now (coarse .exit) ≡ filledBuffers hop bands (now (times .entry)) (now (values .entry)) (buffers (now (fine .entry)) (now (coarse .entry)) (now («fine_energy» .entry)) (now («coarse_energy» .entry))) .coarse ⌝ }
+    ensures { λ _. ⌜ now («fine_energy» .exit) ≡ filledBuffers hop bands (now (times .entry)) (now (values .entry)) (buffers (now (fine .entry)) (now (coarse .entry)) (now («fine_energy» .entry)) (now («coarse_energy» .entry))) .fineEnergy ⌝ }
+    ensures { λ _. ⌜ now («coarse_energy» .exit) ≡ filledBuffers hop bands (now (times .entry)) (now (values .entry)) (buffers (now (fine .entry)) (now (coarse .entry)) (now («fine_energy» .entry)) (now («coarse_energy» .entry))) .coarseEnergy ⌝ }
 {
     if !fits_fill(
         hop,
@@ -101,16 +101,16 @@ pub extern "C" fn matcher_fill_index(
         values.len(),
         fine.len(),
         coarse.len(),
-        fine_squares.len(),
-        coarse_squares.len(),
+        fine_energy.len(),
+        coarse_energy.len(),
     ) {
         return UNFIT;
     }
     if fill_index(
         fine,
         coarse,
-        fine_squares,
-        coarse_squares,
+        fine_energy,
+        coarse_energy,
         bands,
         hop,
         times,
@@ -144,7 +144,7 @@ fn write_candidates(out: &mut [f64], result: MatchResult)
 fn fits_local(
     reference: Reference,
     fine: usize,
-    squares: usize,
+    energy: usize,
     bands: usize,
     times: usize,
     values: usize,
@@ -152,13 +152,13 @@ fn fits_local(
     work64: usize,
     out: usize,
 ) -> bool
-    ensures { λ r. ⌜ r ≡ fitsLocalLengths reference fine squares bands times values work32 work64 out ⌝ }
+    ensures { λ r. ⌜ r ≡ fitsLocalLengths reference fine energy bands times values work32 work64 out ⌝ }
 {
     if !fits_limits(reference.bands, reference.frames, reference.hop_ms) {
         return false;
     }
     fits_window(reference.frames, bands, times, values, work32, work64)
-        & (fits_bands(reference.bands, reference.frames, fine, squares) & (NUMBERS <= out))
+        & (fits_bands(reference.bands, reference.frames, fine, energy) & (NUMBERS <= out))
 }
 
 // The candidates of the whole reference: their number is the answer.
@@ -166,8 +166,8 @@ fn fits_local(
 pub extern "C" fn matcher_whole_search(
     fine: &[f32],
     coarse: &[f32],
-    fine_squares: &[f64],
-    coarse_squares: &[f64],
+    fine_energy: &[f64],
+    coarse_energy: &[f64],
     reference_bands: usize,
     frames: usize,
     start: f64,
@@ -179,8 +179,8 @@ pub extern "C" fn matcher_whole_search(
     work64: &mut [f64],
     out: &mut [f64],
 ) -> usize
-    ensures { λ r. ⌜ r ≡ counted (fitsWhole (referenceOf «reference_bands» frames start hop) (buffers (now (fine .entry)) (now (coarse .entry)) (now («fine_squares» .entry)) (now («coarse_squares» .entry))) (windowOf bands (now (times .entry)) (now (values .entry))) (length (now (work32 .entry))) (length (now (work64 .entry))) (length (now (out .entry)))) (foundIn (referenceOf «reference_bands» frames start hop) (buffers (now (fine .entry)) (now (coarse .entry)) (now («fine_squares» .entry)) (now («coarse_squares» .entry))) (windowOf bands (now (times .entry)) (now (values .entry)))) ⌝ }
-    ensures { λ _. ⌜ now (out .exit) ≡ written (fitsWhole (referenceOf «reference_bands» frames start hop) (buffers (now (fine .entry)) (now (coarse .entry)) (now («fine_squares» .entry)) (now («coarse_squares» .entry))) (windowOf bands (now (times .entry)) (now (values .entry))) (length (now (work32 .entry))) (length (now (work64 .entry))) (length (now (out .entry)))) (foundIn (referenceOf «reference_bands» frames start hop) (buffers (now (fine .entry)) (now (coarse .entry)) (now («fine_squares» .entry)) (now («coarse_squares» .entry))) (windowOf bands (now (times .entry)) (now (values .entry)))) (now (out .entry)) ⌝ }
+    ensures { λ r. ⌜ r ≡ counted (fitsWhole (referenceOf «reference_bands» frames start hop) (buffers (now (fine .entry)) (now (coarse .entry)) (now («fine_energy» .entry)) (now («coarse_energy» .entry))) (features bands (now (times .entry)) (now (values .entry))) (length (now (work32 .entry))) (length (now (work64 .entry))) (length (now (out .entry)))) (foundIn (referenceOf «reference_bands» frames start hop) (buffers (now (fine .entry)) (now (coarse .entry)) (now («fine_energy» .entry)) (now («coarse_energy» .entry))) (features bands (now (times .entry)) (now (values .entry)))) ⌝ }
+    ensures { λ _. ⌜ now (out .exit) ≡ written (fitsWhole (referenceOf «reference_bands» frames start hop) (buffers (now (fine .entry)) (now (coarse .entry)) (now («fine_energy» .entry)) (now («coarse_energy» .entry))) (features bands (now (times .entry)) (now (values .entry))) (length (now (work32 .entry))) (length (now (work64 .entry))) (length (now (out .entry)))) (foundIn (referenceOf «reference_bands» frames start hop) (buffers (now (fine .entry)) (now (coarse .entry)) (now («fine_energy» .entry)) (now («coarse_energy» .entry))) (features bands (now (times .entry)) (now (values .entry)))) (now (out .entry)) ⌝ }
 {
     let reference = Reference {
         bands: reference_bands,
@@ -191,7 +191,7 @@ pub extern "C" fn matcher_whole_search(
     if !fits_local(
         reference,
         fine.len(),
-        fine_squares.len(),
+        fine_energy.len(),
         bands,
         times.len(),
         values.len(),
@@ -205,15 +205,15 @@ pub extern "C" fn matcher_whole_search(
         reference_bands,
         frames / 4,
         coarse.len(),
-        coarse_squares.len(),
+        coarse_energy.len(),
     ) {
         return UNFIT;
     }
     let found = whole_search(
         fine,
         coarse,
-        fine_squares,
-        coarse_squares,
+        fine_energy,
+        coarse_energy,
         reference,
         bands,
         times,
@@ -229,7 +229,7 @@ pub extern "C" fn matcher_whole_search(
 #[no_mangle]
 pub extern "C" fn matcher_local_search(
     fine: &[f32],
-    squares: &[f64],
+    energy: &[f64],
     reference_bands: usize,
     frames: usize,
     start: f64,
@@ -243,8 +243,8 @@ pub extern "C" fn matcher_local_search(
     work64: &mut [f64],
     out: &mut [f64],
 ) -> usize
-    ensures { λ r. ⌜ r ≡ counted (fitsLocal (referenceOf «reference_bands» frames start hop) (now (fine .entry)) (now (squares .entry)) (windowOf bands (now (times .entry)) (now (values .entry))) (length (now (work32 .entry))) (length (now (work64 .entry))) (length (now (out .entry)))) (foundNear (referenceOf «reference_bands» frames start hop) (now (fine .entry)) (now (squares .entry)) (windowOf bands (now (times .entry)) (now (values .entry))) lower upper) ⌝ }
-    ensures { λ _. ⌜ now (out .exit) ≡ written (fitsLocal (referenceOf «reference_bands» frames start hop) (now (fine .entry)) (now (squares .entry)) (windowOf bands (now (times .entry)) (now (values .entry))) (length (now (work32 .entry))) (length (now (work64 .entry))) (length (now (out .entry)))) (foundNear (referenceOf «reference_bands» frames start hop) (now (fine .entry)) (now (squares .entry)) (windowOf bands (now (times .entry)) (now (values .entry))) lower upper) (now (out .entry)) ⌝ }
+    ensures { λ r. ⌜ r ≡ counted (fitsLocal (referenceOf «reference_bands» frames start hop) (now (fine .entry)) (now (energy .entry)) (features bands (now (times .entry)) (now (values .entry))) (length (now (work32 .entry))) (length (now (work64 .entry))) (length (now (out .entry)))) (foundNear (referenceOf «reference_bands» frames start hop) (now (fine .entry)) (now (energy .entry)) (features bands (now (times .entry)) (now (values .entry))) lower upper) ⌝ }
+    ensures { λ _. ⌜ now (out .exit) ≡ written (fitsLocal (referenceOf «reference_bands» frames start hop) (now (fine .entry)) (now (energy .entry)) (features bands (now (times .entry)) (now (values .entry))) (length (now (work32 .entry))) (length (now (work64 .entry))) (length (now (out .entry)))) (foundNear (referenceOf «reference_bands» frames start hop) (now (fine .entry)) (now (energy .entry)) (features bands (now (times .entry)) (now (values .entry))) lower upper) (now (out .entry)) ⌝ }
 {
     let reference = Reference {
         bands: reference_bands,
@@ -255,7 +255,7 @@ pub extern "C" fn matcher_local_search(
     if !fits_local(
         reference,
         fine.len(),
-        squares.len(),
+        energy.len(),
         bands,
         times.len(),
         values.len(),
@@ -267,7 +267,7 @@ pub extern "C" fn matcher_local_search(
     }
     let found = local_search(
         fine,
-        squares,
+        energy,
         reference,
         bands,
         times,

@@ -9,8 +9,9 @@ use lib.Ieee.{le}
 use lib.Ieee.Scale.{finite}
 use Rattle.matcher_spec.specs.Timeline.{validValues}
 use Rattle.matcher_spec.specs.Energy.{reduction}
-use Rattle.engine_spec.specs.Limits.{hopLeast, hopMost, framesMost, windowMost, bandsMost}
-use Rattle.engine_spec.specs.Refusals.{Submission, numberOf, refuses, near, every, validEnergy, validConfiguration, hopInRange, countsInRange, bothOrNeither, indexFits, validSettings, validLock, validMilestones, validLast, validEngine, validWindow, workFits, handedRefusal, submissionRefusal}
+use Rattle.matcher_spec.specs.Limits.{hopLeast, hopMost, framesMost, windowMost, bandsMost}
+use Rattle.engine_spec.specs.Refusals.{Submission, numberOf, refuses, near, validEnergy, validConfiguration, hopInRange, countsInRange, bothOrNeither, indexFits, validSettings, validLock, validMilestones, validLast, validEngine, validWindow, workFits, handedRefusal, submissionRefusal}
+use Rattle.numbers_spec.specs.Rows.{every}
 use Rattle.engine_spec.specs.declared.types.Settings.{Settings}
 use Rattle.engine_spec.specs.declared.types.Engine.{Engine}
 use Rattle.engine_spec.specs.declared.types.Answer.the-variants as answer
@@ -52,8 +53,8 @@ module _ (s : Settings) (i : Submission) (v : T (validSettings s)) (e : refuses 
       -- the index
       let fine = leb (b * f) (length (x .fine)) in
       let coarse = leb (b * (f / reduction)) (length (x .coarse)) in
-      let fines = leb (b * (f + 1)) (length (x .fineSquares)) in
-      let coarses = leb (b * (f / reduction + 1)) (length (x .coarseSquares)) in
+      let fines = leb (b * (f + 1)) (length (x .fineEnergy)) in
+      let coarses = leb (b * (f / reduction + 1)) (length (x .coarseEnergy)) in
       let i₁ = and-r fine (coarse && (fines && coarses)) (p₁ .here) in
       let i₂ = and-r coarse (fines && coarses) i₁ in
       -- the window
@@ -74,8 +75,8 @@ module _ (s : Settings) (i : Submission) (v : T (validSettings s)) (e : refuses 
         values = eqb→eq (length (w .values)) (w .bands * n) (and-l filled (validValues (w .values)) w₂);
         fine = leb→le (b * f) (length (x .fine)) (and-l fine (coarse && (fines && coarses)) (p₁ .here));
         coarse = leb→le (b * (f / reduction)) (length (x .coarse)) (and-l coarse (fines && coarses) i₁);
-        fine-squares = leb→le (b * (f + 1)) (length (x .fineSquares)) (and-l fines coarses i₂);
-        coarse-squares = leb→le (b * (f / reduction + 1)) (length (x .coarseSquares)) (and-r fines coarses i₂);
+        fine-energy = leb→le (b * (f + 1)) (length (x .fineEnergy)) (and-l fines coarses i₂);
+        coarse-energy = leb→le (b * (f / reduction + 1)) (length (x .coarseEnergy)) (and-r fines coarses i₂);
         work32 = times-2 (w .bands) n (i .room32) (leb→le (2 * w .bands * n) (i .room32) (and-l few many (p₇ .here)));
         work64 = times-3 (w .bands) (n + 1) f (i .room64) (leb→le (3 * w .bands * (n + 1) + f) (i .room64) (and-r few many (p₇ .here)));
       }

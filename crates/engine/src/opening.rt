@@ -1,8 +1,8 @@
 // Opening: fills the index of a reference and gives the engine that submissions start from.
 ghost use mathlib.Core.Path.{_≡_};
 ghost use Rattle.engine_spec.specs.Opening.{openedIndex, opening};
-ghost use Rattle.engine_spec.specs.Lent.{film, lent};
-ghost use Rattle.engine_spec.specs.Reached.{Guaranteed};
+ghost use Rattle.engine_spec.specs.Lent.{lent};
+ghost use Rattle.engine_spec.specs.Guaranteed.{Guaranteed};
 use engine_answers::fresh::fresh_engine;
 use engine_answers::fresh::no_engine;
 use engine_answers::fresh::with_index;
@@ -10,7 +10,7 @@ use engine_answers::fresh::without_index;
 use engine_refusals::handed::opening_refusal;
 use engine_refusals::refusals::is_refusal;
 use engine_spec::types::Configuration;
-use engine_spec::types::Opened;
+use engine_spec::types::OpenResult;
 use matcher::index::fill_index;
 
 // Opens an engine over a reference, or refuses it by number and then writes nothing. Values lie
@@ -25,12 +25,12 @@ pub fn open(
     values: &[f32],
     fine: &mut [f32],
     coarse: &mut [f32],
-    fine_squares: &mut [f64],
-    coarse_squares: &mut [f64],
-) -> Opened
-    ensures { λ r. ⌜ r ≡ opening configuration hop (film bands (now (times .entry)) (now (values .entry))) (lent (now (fine .entry)) (now (coarse .entry)) (now («fine_squares» .entry)) (now («coarse_squares» .entry))) ⌝ }
-    ensures { λ r. ⌜ lent (now (fine .exit)) (now (coarse .exit)) (now («fine_squares» .exit)) (now («coarse_squares» .exit)) ≡ openedIndex configuration hop (film bands (now (times .entry)) (now (values .entry))) (lent (now (fine .entry)) (now (coarse .entry)) (now («fine_squares» .entry)) (now («coarse_squares» .entry))) ⌝ }
-    ensures { λ r. ⌜ Guaranteed configuration hop (film bands (now (times .entry)) (now (values .entry))) (lent (now (fine .exit)) (now (coarse .exit)) (now («fine_squares» .exit)) (now («coarse_squares» .exit))) r ⌝ }
+    fine_energy: &mut [f64],
+    coarse_energy: &mut [f64],
+) -> OpenResult
+    ensures { λ r. ⌜ r ≡ opening configuration hop (features bands (now (times .entry)) (now (values .entry))) (lent (now (fine .entry)) (now (coarse .entry)) (now («fine_energy» .entry)) (now («coarse_energy» .entry))) ⌝ }
+    ensures { λ r. ⌜ lent (now (fine .exit)) (now (coarse .exit)) (now («fine_energy» .exit)) (now («coarse_energy» .exit)) ≡ openedIndex configuration hop (features bands (now (times .entry)) (now (values .entry))) (lent (now (fine .entry)) (now (coarse .entry)) (now («fine_energy» .entry)) (now («coarse_energy» .entry))) ⌝ }
+    ensures { λ r. ⌜ Guaranteed configuration hop (features bands (now (times .entry)) (now (values .entry))) (lent (now (fine .exit)) (now (coarse .exit)) (now («fine_energy» .exit)) (now («coarse_energy» .exit))) r ⌝ }
 {
     let answer = opening_refusal(
         configuration,
@@ -40,26 +40,26 @@ pub fn open(
         values,
         fine,
         coarse,
-        fine_squares,
-        coarse_squares,
+        fine_energy,
+        coarse_energy,
     );
     if is_refusal(answer) {
         let engine = no_engine();
-        return Opened { answer, engine };
+        return OpenResult { answer, engine };
     }
     if !fill_index(
         fine,
         coarse,
-        fine_squares,
-        coarse_squares,
+        fine_energy,
+        coarse_energy,
         bands,
         hop,
         times,
         values,
     ) {
         let engine = fresh_engine(without_index(configuration, hop));
-        return Opened { answer, engine };
+        return OpenResult { answer, engine };
     }
     let engine = fresh_engine(with_index(configuration, hop, bands, times));
-    Opened { answer, engine }
+    OpenResult { answer, engine }
 }

@@ -2,7 +2,7 @@
 ghost use lib.ListN.{length};
 ghost use mathlib.Core.Bool.{true};
 ghost use mathlib.Core.Path.{_≡_};
-ghost use Rattle.matcher_spec.specs.Words.{Every, F32};
+ghost use Rattle.numbers_spec.specs.Rows.{Every, F32};
 ghost use Rattle.engine_spec.specs.Refusals.{refuses};
 ghost use Rattle.engine_spec.specs.Submitting.{answeredFrom, submit};
 ghost use Rattle.engine_spec.specs.Lent.{handed, lent, window};
@@ -19,7 +19,7 @@ use engine_refusals::refusals::is_refusal;
 use engine_spec::types::ClockMs;
 use engine_spec::types::Engine;
 use engine_spec::types::RecordedMs;
-use engine_spec::types::Submitted;
+use engine_spec::types::SubmitResult;
 
 // Answers a window, or refuses it by number. `engine` is what the submission before gave back, or
 // `open` gave; the four index slices are as `open` filled them. A refusal gives `engine` back as it
@@ -29,8 +29,8 @@ pub fn submit(
     engine: Engine,
     fine: &[f32],
     coarse: &[f32],
-    fine_squares: &[f64],
-    coarse_squares: &[f64],
+    fine_energy: &[f64],
+    coarse_energy: &[f64],
     bands: usize,
     times: &[f64],
     energies: &[f64],
@@ -38,8 +38,8 @@ pub fn submit(
     clock: ClockMs,
     work32: &mut [f32],
     work64: &mut [f64],
-) -> Submitted
-    ensures { λ r. ⌜ r ≡ submit engine (handed (lent (now (fine .entry)) (now (coarse .entry)) (now («fine_squares» .entry)) (now («coarse_squares» .entry))) (window bands (now (times .entry)) (now (energies .entry)) (now (values .entry))) clock (length (now (work32 .entry))) (length (now (work64 .entry)))) ⌝ }
+) -> SubmitResult
+    ensures { λ r. ⌜ r ≡ submit engine (handed (lent (now (fine .entry)) (now (coarse .entry)) (now («fine_energy» .entry)) (now («coarse_energy» .entry))) (window bands (now (times .entry)) (now (energies .entry)) (now (values .entry))) clock (length (now (work32 .entry))) (length (now (work64 .entry)))) ⌝ }
     ensures untouched { λ r. ⌜ (refuses (r .answer) ≡ true → (now (work32 .exit) ≡ now (work32 .entry)) × (now (work64 .exit) ≡ now (work64 .entry))) ⌝ }
     ensures lengths { λ r. ⌜ (length (now (work32 .exit)) ≡ length (now (work32 .entry))) × (length (now (work64 .exit)) ≡ length (now (work64 .entry))) ⌝ }
     ensures held { λ r. ⌜ Every F32 (now (values .entry)) ⌝ }
@@ -48,8 +48,8 @@ pub fn submit(
         engine,
         fine,
         coarse,
-        fine_squares,
-        coarse_squares,
+        fine_energy,
+        coarse_energy,
         bands,
         times,
         energies,
@@ -65,8 +65,8 @@ pub fn submit(
         engine,
         fine,
         coarse,
-        fine_squares,
-        coarse_squares,
+        fine_energy,
+        coarse_energy,
         bands,
         times,
         energies,
@@ -82,8 +82,8 @@ fn answered(
     engine: Engine,
     fine: &[f32],
     coarse: &[f32],
-    fine_squares: &[f64],
-    coarse_squares: &[f64],
+    fine_energy: &[f64],
+    coarse_energy: &[f64],
     bands: usize,
     times: &[f64],
     energies: &[f64],
@@ -91,9 +91,9 @@ fn answered(
     clock: ClockMs,
     work32: &mut [f32],
     work64: &mut [f64],
-) -> Submitted
-    requires { ⌜ Room (engine .settings) (lent (now fine) (now coarse) (now «fine_squares») (now «coarse_squares»)) (window bands (now times) (now energies) (now values)) (length (now work32)) (length (now work64)) ⌝ }
-    ensures { λ r. ⌜ r ≡ answeredFrom engine (handed (lent (now (fine .entry)) (now (coarse .entry)) (now («fine_squares» .entry)) (now («coarse_squares» .entry))) (window bands (now (times .entry)) (now (energies .entry)) (now (values .entry))) clock (length (now (work32 .entry))) (length (now (work64 .entry)))) ⌝ }
+) -> SubmitResult
+    requires { ⌜ Room (engine .settings) (lent (now fine) (now coarse) (now «fine_energy») (now «coarse_energy»)) (window bands (now times) (now energies) (now values)) (length (now work32)) (length (now work64)) ⌝ }
+    ensures { λ r. ⌜ r ≡ answeredFrom engine (handed (lent (now (fine .entry)) (now (coarse .entry)) (now («fine_energy» .entry)) (now («coarse_energy» .entry))) (window bands (now (times .entry)) (now (energies .entry)) (now (values .entry))) clock (length (now (work32 .entry))) (length (now (work64 .entry)))) ⌝ }
 {
     let n = times.len();
     let settings = engine.settings;
@@ -108,8 +108,8 @@ fn answered(
         settings,
         fine,
         coarse,
-        fine_squares,
-        coarse_squares,
+        fine_energy,
+        coarse_energy,
         bands,
         times,
         energies,

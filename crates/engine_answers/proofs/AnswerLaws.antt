@@ -11,12 +11,12 @@ use Rattle.engine_spec.specs.Submitting.{stamp, computedFrom}
 use Rattle.engine_spec.specs.declared.types.Engine.{Engine}
 use Rattle.engine_spec.specs.declared.types.Answer.the-variants as answer
 use Rattle.engine_spec.specs.declared.types.Endpoint.the-variants as endpoint
-use Rattle.engine_spec.specs.declared.types.Submitted.{Submitted}
+use Rattle.engine_spec.specs.declared.types.SubmitResult.{SubmitResult}
 
 -- a computed answer put together from its parts
 pub computed-is : (e : Engine) (i : Submission) (d : publishing.Decision) {m : Milestones} {s : Snapshot}
     → m ≡ stamp (e .milestones) (d .reached) (i .clock) → s ≡ publish (e .settings) (i .window) d m
-    → _≡_ {A = Submitted} record {
+    → _≡_ {A = SubmitResult} record {
       answer = answer.Computed;
       engine = record { settings = e .settings; lock = d .lock; milestones = m; last = record { «endpoint_ms» = endpoint.At (endpointOf (i .window)); «has_snapshot» = true; snapshot = s } };
       snapshot = s;

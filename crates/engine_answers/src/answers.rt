@@ -21,11 +21,11 @@ use engine_spec::types::Last;
 use engine_spec::types::Maybe;
 use engine_spec::types::RecordedMs;
 use engine_spec::types::Snapshot;
-use engine_spec::types::Submitted;
+use engine_spec::types::SubmitResult;
 
 // A re-reading: the last snapshot with its estimate moved to this endpoint and the engine's own
 // milestones. The engine stays as it is.
-pub fn reread(engine: Engine, endpoint: RecordedMs) -> Submitted
+pub fn reread(engine: Engine, endpoint: RecordedMs) -> SubmitResult
     ensures { λ r. ⌜ r ≡ reread engine (endingAt endpoint) ⌝ }
 {
     let last = engine.last;
@@ -48,7 +48,7 @@ pub fn reread(engine: Engine, endpoint: RecordedMs) -> Submitted
         diagnostics,
         milestones,
     };
-    Submitted {
+    SubmitResult {
         answer: Answer::Reread,
         engine,
         snapshot,
@@ -78,7 +78,7 @@ pub fn computed_from(
     values: &[f32],
     clock: ClockMs,
     d: Decision,
-) -> Submitted
+) -> SubmitResult
     requires { ⌜ d .found .count ≤ 8 ⌝ ∗ ⌜ 0 < length (now times) ⌝ ∗ ⌜ length (now times) ≤ length (now energies) ⌝ }
     ensures { λ r. ⌜ r ≡ computedFrom engine (handed (lent [] [] [] []) (window bands (now (times .entry)) (now (energies .entry)) (now (values .entry))) clock 0 0) (decisionIn d) ⌝ }
 {
@@ -101,7 +101,7 @@ pub fn computed_from(
         milestones,
         last,
     };
-    Submitted {
+    SubmitResult {
         answer: Answer::Computed,
         engine: next,
         snapshot,
@@ -109,11 +109,11 @@ pub fn computed_from(
 }
 
 // The same engine, and no snapshot.
-pub fn refused(engine: Engine, answer: Answer) -> Submitted
+pub fn refused(engine: Engine, answer: Answer) -> SubmitResult
     ensures { λ r. ⌜ r ≡ refused engine answer ⌝ }
 {
     let snapshot = blank_snapshot();
-    Submitted {
+    SubmitResult {
         answer,
         engine,
         snapshot,

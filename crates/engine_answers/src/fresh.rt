@@ -4,7 +4,6 @@ ghost use lib.ListN.{length};
 ghost use mathlib.Core.List.{[]};
 ghost use mathlib.Core.Path.{_≡_};
 ghost use Rattle.engine_spec.specs.Opening.{blankSnapshot, freshEngine, noEngine, noMilestones, withIndex, withoutIndex};
-ghost use Rattle.engine_spec.specs.Lent.{film};
 use engine_decision::windows::no_lock;
 use engine_snapshot::candidates::blank_candidate;
 use engine_spec::types::Configuration;
@@ -62,7 +61,7 @@ pub fn no_engine() -> Engine
 // The reference's counts and start.
 pub fn with_index(configuration: Configuration, hop: f64, bands: usize, times: &[f64]) -> Settings
     requires { ⌜ 0 < length (now times) ⌝ ∗ ⌜ length (now times) ≤ 65535 ⌝ ∗ ⌜ bands ≤ 64 ⌝ }
-    ensures { λ r. ⌜ r ≡ withIndex configuration hop (film bands (now (times .entry)) []) ⌝ }
+    ensures { λ r. ⌜ r ≡ withIndex configuration hop (features bands (now (times .entry)) []) ⌝ }
 {
     Settings {
         configuration,

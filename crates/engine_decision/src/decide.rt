@@ -24,8 +24,8 @@ pub fn decide(
     settings: Settings,
     fine: &[f32],
     coarse: &[f32],
-    fine_squares: &[f64],
-    coarse_squares: &[f64],
+    fine_energy: &[f64],
+    coarse_energy: &[f64],
     bands: usize,
     times: &[f64],
     energies: &[f64],
@@ -35,8 +35,8 @@ pub fn decide(
     work32: &mut [f32],
     work64: &mut [f64],
 ) -> Decision
-    requires { ⌜ Room settings (lent (now fine) (now coarse) (now «fine_squares») (now «coarse_squares»)) (window bands (now times) (now energies) (now values)) (length (now work32)) (length (now work64)) ⌝ }
-    ensures { λ r. ⌜ decisionIn r ≡ decide settings (matcherIn settings (lent (now (fine .entry)) (now (coarse .entry)) (now («fine_squares» .entry)) (now («coarse_squares» .entry)))) (window bands (now (times .entry)) (now (energies .entry)) (now (values .entry))) (reachedIn reached) lock ⌝ }
+    requires { ⌜ Room settings (lent (now fine) (now coarse) (now «fine_energy») (now «coarse_energy»)) (window bands (now times) (now energies) (now values)) (length (now work32)) (length (now work64)) ⌝ }
+    ensures { λ r. ⌜ decisionIn r ≡ decide settings (matcherIn settings (lent (now (fine .entry)) (now (coarse .entry)) (now («fine_energy» .entry)) (now («coarse_energy» .entry)))) (window bands (now (times .entry)) (now (energies .entry)) (now (values .entry))) (reachedIn reached) lock ⌝ }
     ensures { λ r. ⌜ r .found .count ≤ 8 ⌝ }
 {
     let n = times.len();
@@ -49,8 +49,8 @@ pub fn decide(
         settings,
         fine,
         coarse,
-        fine_squares,
-        coarse_squares,
+        fine_energy,
+        coarse_energy,
         bands,
         times,
         energies,

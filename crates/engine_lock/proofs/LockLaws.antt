@@ -12,11 +12,11 @@ use Rattle.matcher_spec.specs.Search.{localSearch}
 use Rattle.matcher_spec.specs.Candidates.{marginOf}
 use Rattle.matcher_spec.specs.declared.types.Candidate.{Candidate}
 use Rattle.engine_spec.specs.Thresholds.{passingCorrelation, passingMargin, passingHalf, localMs}
-use Rattle.numbers_spec.specs.Arithmetic.{_⊕_, _⊖_, zero⁺, atLeast}
+use Rattle.numbers_spec.specs.Arithmetic.{_⊕_, _⊖_, zero⁺, atLeast, least}
 use Rattle.engine_spec.specs.Windows.{Window, query, evidence, _after_}
 use Rattle.engine_spec.specs.Tracking as tracking
 use Rattle.engine_spec.specs.Tracking.{samePlace, mayCoast, supports, movedOffset, unsupported, followed, tracked}
-use Rattle.engine_spec.specs.Locking.{least, passing, current, holds, Reached, firstEvidence, passed, notPassed, wholeSearched}
+use Rattle.engine_spec.specs.Locking.{passing, current, holds, Reached, firstEvidence, passed, notPassed, wholeSearched}
 use Rattle.engine_spec.specs.declared.types.RecordedMs.{RecordedMs}
 use Rattle.engine_spec.specs.declared.types.Maybe.the-variants as maybe
 use Rattle.engine_spec.specs.declared.types.Hypothesis.{Hypothesis}

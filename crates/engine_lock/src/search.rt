@@ -6,7 +6,8 @@ ghost use mathlib.Core.Bool.{cond, false, true};
 ghost use mathlib.Core.List.{[]};
 ghost use mathlib.Core.Path.{_≡_};
 ghost use Rattle.matcher_spec.specs.Centring.{wideHop};
-ghost use Rattle.matcher_spec.specs.Search.{FilledQuery, wholeSearch, windowOf};
+ghost use Rattle.matcher_spec.specs.Search.{FilledQuery, wholeSearch};
+ghost use Rattle.matcher_spec.specs.Features.{features};
 ghost use Rattle.engine_spec.specs.declared.types.RecordedMs as recorded;
 ghost use Rattle.engine_spec.specs.declared.types.Hypothesis.the-variants as hypothesis;
 ghost use Rattle.engine_spec.specs.Windows.{matcherIn, query, referenceOf};
@@ -42,8 +43,8 @@ pub fn searched(
     settings: Settings,
     fine: &[f32],
     coarse: &[f32],
-    fine_squares: &[f64],
-    coarse_squares: &[f64],
+    fine_energy: &[f64],
+    coarse_energy: &[f64],
     bands: usize,
     times: &[f64],
     energies: &[f64],
@@ -53,8 +54,8 @@ pub fn searched(
     work32: &mut [f32],
     work64: &mut [f64],
 ) -> Searched
-    requires { ⌜ Room settings (lent (now fine) (now coarse) (now «fine_squares») (now «coarse_squares»)) (window bands (now times) (now energies) (now values)) (length (now work32)) (length (now work64)) ⌝ ∗ ⌜ 0 < settings .«reference_frames» ⌝ }
-    ensures { λ r. ⌜ searchedIn r ≡ searched (matcherIn settings (lent (now (fine .entry)) (now (coarse .entry)) (now («fine_squares» .entry)) (now («coarse_squares» .entry)))) (settings .«hop_ms») (window bands (now (times .entry)) (now (energies .entry)) (now (values .entry))) (reachedIn reached) lock ⌝ }
+    requires { ⌜ Room settings (lent (now fine) (now coarse) (now «fine_energy») (now «coarse_energy»)) (window bands (now times) (now energies) (now values)) (length (now work32)) (length (now work64)) ⌝ ∗ ⌜ 0 < settings .«reference_frames» ⌝ }
+    ensures { λ r. ⌜ searchedIn r ≡ searched (matcherIn settings (lent (now (fine .entry)) (now (coarse .entry)) (now («fine_energy» .entry)) (now («coarse_energy» .entry)))) (settings .«hop_ms») (window bands (now (times .entry)) (now (energies .entry)) (now (values .entry))) (reachedIn reached) lock ⌝ }
     ensures { λ r. ⌜ r .found .count ≤ 8 ⌝ }
 {
     let n = times.len();
@@ -67,8 +68,8 @@ pub fn searched(
             settings,
             fine,
             coarse,
-            fine_squares,
-            coarse_squares,
+            fine_energy,
+            coarse_energy,
             bands,
             times,
             energies,
@@ -83,8 +84,8 @@ pub fn searched(
         settings,
         fine,
         coarse,
-        fine_squares,
-        coarse_squares,
+        fine_energy,
+        coarse_energy,
         bands,
         times,
         energies,
@@ -117,8 +118,8 @@ fn with_track(
     settings: Settings,
     fine: &[f32],
     coarse: &[f32],
-    fine_squares: &[f64],
-    coarse_squares: &[f64],
+    fine_energy: &[f64],
+    coarse_energy: &[f64],
     bands: usize,
     times: &[f64],
     energies: &[f64],
@@ -128,8 +129,8 @@ fn with_track(
     work32: &mut [f32],
     work64: &mut [f64],
 ) -> Searched
-    requires { ⌜ Room settings (lent (now fine) (now coarse) (now «fine_squares») (now «coarse_squares»)) (window bands (now times) (now energies) (now values)) (length (now work32)) (length (now work64)) ⌝ ∗ ⌜ 0 < settings .«reference_frames» ⌝ }
-    ensures { λ r. ⌜ searchedIn r ≡ searched (matcherIn settings (lent (now (fine .entry)) (now (coarse .entry)) (now («fine_squares» .entry)) (now («coarse_squares» .entry)))) (settings .«hop_ms») (window bands (now (times .entry)) (now (energies .entry)) (now (values .entry))) (reachedIn reached) lock ⌝ }
+    requires { ⌜ Room settings (lent (now fine) (now coarse) (now «fine_energy») (now «coarse_energy»)) (window bands (now times) (now energies) (now values)) (length (now work32)) (length (now work64)) ⌝ ∗ ⌜ 0 < settings .«reference_frames» ⌝ }
+    ensures { λ r. ⌜ searchedIn r ≡ searched (matcherIn settings (lent (now (fine .entry)) (now (coarse .entry)) (now («fine_energy» .entry)) (now («coarse_energy» .entry)))) (settings .«hop_ms») (window bands (now (times .entry)) (now (energies .entry)) (now (values .entry))) (reachedIn reached) lock ⌝ }
     ensures { λ r. ⌜ r .found .count ≤ 8 ⌝ }
 {
     let n = times.len();
@@ -142,8 +143,8 @@ fn with_track(
         settings,
         fine,
         coarse,
-        fine_squares,
-        coarse_squares,
+        fine_energy,
+        coarse_energy,
         bands,
         times,
         energies,
@@ -159,8 +160,8 @@ fn with_track(
         settings,
         fine,
         coarse,
-        fine_squares,
-        coarse_squares,
+        fine_energy,
+        coarse_energy,
         bands,
         times,
         energies,
@@ -178,8 +179,8 @@ fn without_track(
     settings: Settings,
     fine: &[f32],
     coarse: &[f32],
-    fine_squares: &[f64],
-    coarse_squares: &[f64],
+    fine_energy: &[f64],
+    coarse_energy: &[f64],
     bands: usize,
     times: &[f64],
     energies: &[f64],
@@ -189,9 +190,9 @@ fn without_track(
     work32: &mut [f32],
     work64: &mut [f64],
 ) -> Searched
-    requires { ⌜ Room settings (lent (now fine) (now coarse) (now «fine_squares») (now «coarse_squares»)) (window bands (now times) (now energies) (now values)) (length (now work32)) (length (now work64)) ⌝ ∗ ⌜ 0 < settings .«reference_frames» ⌝ }
-    requires { ⌜ unsupported hypothesis.Absent [] ≡ tracked (matcherIn settings (lent (now fine) (now coarse) (now «fine_squares») (now «coarse_squares»))) (settings .«hop_ms») (window bands (now times) (now energies) (now values)) (lock .accepted) ⌝ }
-    ensures { λ r. ⌜ searchedIn r ≡ searched (matcherIn settings (lent (now (fine .entry)) (now (coarse .entry)) (now («fine_squares» .entry)) (now («coarse_squares» .entry)))) (settings .«hop_ms») (window bands (now (times .entry)) (now (energies .entry)) (now (values .entry))) (reachedIn reached) lock ⌝ }
+    requires { ⌜ Room settings (lent (now fine) (now coarse) (now «fine_energy») (now «coarse_energy»)) (window bands (now times) (now energies) (now values)) (length (now work32)) (length (now work64)) ⌝ ∗ ⌜ 0 < settings .«reference_frames» ⌝ }
+    requires { ⌜ unsupported hypothesis.Absent [] ≡ tracked (matcherIn settings (lent (now fine) (now coarse) (now «fine_energy») (now «coarse_energy»))) (settings .«hop_ms») (window bands (now times) (now energies) (now values)) (lock .accepted) ⌝ }
+    ensures { λ r. ⌜ searchedIn r ≡ searched (matcherIn settings (lent (now (fine .entry)) (now (coarse .entry)) (now («fine_energy» .entry)) (now («coarse_energy» .entry)))) (settings .«hop_ms») (window bands (now (times .entry)) (now (energies .entry)) (now (values .entry))) (reachedIn reached) lock ⌝ }
     ensures { λ r. ⌜ r .found .count ≤ 8 ⌝ }
 {
     let n = times.len();
@@ -207,8 +208,8 @@ fn without_track(
         settings,
         fine,
         coarse,
-        fine_squares,
-        coarse_squares,
+        fine_energy,
+        coarse_energy,
         bands,
         times,
         energies,
@@ -233,7 +234,7 @@ fn fill_if(
 ) -> bool
     requires { ⌜ wideHop (reference .«hop_ms») ≡ true ⌝ ∗ ⌜ 0 < reference .bands ⌝ }
     requires { ⌜ length (now values) ≡ bands * length (now times) ⌝ ∗ ⌜ 2 * (bands * length (now times)) ≤ length (now work32) ⌝ ∗ ⌜ 3 * (bands * (length (now times) + 1)) + reference .frames ≤ length (now work64) ⌝ }
-    ensures { λ r. ⌜ (due ≡ true → FilledQuery reference (windowOf bands (now (times .entry)) (now (values .entry))) r (now (work32 .exit)) (now (work64 .exit))) ⌝ }
+    ensures { λ r. ⌜ (due ≡ true → FilledQuery reference (features bands (now (times .entry)) (now (values .entry))) r (now (work32 .exit)) (now (work64 .exit))) ⌝ }
 {
     if !due {
         return false;
@@ -248,8 +249,8 @@ fn tracked(
     settings: Settings,
     fine: &[f32],
     coarse: &[f32],
-    fine_squares: &[f64],
-    coarse_squares: &[f64],
+    fine_energy: &[f64],
+    coarse_energy: &[f64],
     bands: usize,
     times: &[f64],
     energies: &[f64],
@@ -258,9 +259,9 @@ fn tracked(
     work32: &[f32],
     work64: &mut [f64],
 ) -> Tracked
-    requires { ⌜ Room settings (lent (now fine) (now coarse) (now «fine_squares») (now «coarse_squares»)) (window bands (now times) (now energies) (now values)) (length (now work32)) (length (now work64)) ⌝ ∗ ⌜ 0 < settings .«reference_frames» ⌝ }
+    requires { ⌜ Room settings (lent (now fine) (now coarse) (now «fine_energy») (now «coarse_energy»)) (window bands (now times) (now energies) (now values)) (length (now work32)) (length (now work64)) ⌝ ∗ ⌜ 0 < settings .«reference_frames» ⌝ }
     requires { ⌜ FilledQuery (referenceOf settings) (query (window bands (now times) (now energies) (now values))) filled (now work32) (now work64) ⌝ }
-    ensures { λ r. ⌜ trackedIn r ≡ tracked (matcherIn settings (lent (now (fine .entry)) (now (coarse .entry)) (now («fine_squares» .entry)) (now («coarse_squares» .entry)))) (settings .«hop_ms») (window bands (now (times .entry)) (now (energies .entry)) (now (values .entry))) accepted ⌝ }
+    ensures { λ r. ⌜ trackedIn r ≡ tracked (matcherIn settings (lent (now (fine .entry)) (now (coarse .entry)) (now («fine_energy» .entry)) (now («coarse_energy» .entry)))) (settings .«hop_ms») (window bands (now (times .entry)) (now (energies .entry)) (now (values .entry))) accepted ⌝ }
     ensures { λ r. ⌜ r .found .count ≤ 8 ⌝ }
     ensures { λ _. ⌜ FilledQuery (referenceOf settings) (query (window bands (now (times .entry)) (now (energies .entry)) (now (values .entry)))) filled (now (work32 .entry)) (now (work64 .exit)) ⌝ }
 {
@@ -280,7 +281,7 @@ fn tracked(
             let found = local_found(
                 filled,
                 fine,
-                fine_squares,
+                fine_energy,
                 reference_of(settings),
                 bands,
                 times,
@@ -309,8 +310,8 @@ fn then_whole(
     settings: Settings,
     fine: &[f32],
     coarse: &[f32],
-    fine_squares: &[f64],
-    coarse_squares: &[f64],
+    fine_energy: &[f64],
+    coarse_energy: &[f64],
     bands: usize,
     times: &[f64],
     energies: &[f64],
@@ -321,9 +322,9 @@ fn then_whole(
     work32: &mut [f32],
     work64: &mut [f64],
 ) -> Searched
-    requires { ⌜ Room settings (lent (now fine) (now coarse) (now «fine_squares») (now «coarse_squares»)) (window bands (now times) (now energies) (now values)) (length (now work32)) (length (now work64)) ⌝ ∗ ⌜ 0 < settings .«reference_frames» ⌝ ∗ ⌜ t .found .count ≤ 8 ⌝ }
+    requires { ⌜ Room settings (lent (now fine) (now coarse) (now «fine_energy») (now «coarse_energy»)) (window bands (now times) (now energies) (now values)) (length (now work32)) (length (now work64)) ⌝ ∗ ⌜ 0 < settings .«reference_frames» ⌝ ∗ ⌜ t .found .count ≤ 8 ⌝ }
     requires { ⌜ (due ≡ true → FilledQuery (referenceOf settings) (query (window bands (now times) (now energies) (now values))) filled (now work32) (now work64)) ⌝ }
-    ensures { λ r. ⌜ searchedIn r ≡ cond due (wholeSearched (settings .«hop_ms») (window bands (now (times .entry)) (now (energies .entry)) (now (values .entry))) (reachedIn reached) (lock .pending) (trackedIn t) (wholeSearch (matcherIn settings (lent (now (fine .entry)) (now (coarse .entry)) (now («fine_squares» .entry)) (now («coarse_squares» .entry)))) (query (window bands (now (times .entry)) (now (energies .entry)) (now (values .entry)))))) (locallySearched (reachedIn reached) lock (trackedIn t)) ⌝ }
+    ensures { λ r. ⌜ searchedIn r ≡ cond due (wholeSearched (settings .«hop_ms») (window bands (now (times .entry)) (now (energies .entry)) (now (values .entry))) (reachedIn reached) (lock .pending) (trackedIn t) (wholeSearch (matcherIn settings (lent (now (fine .entry)) (now (coarse .entry)) (now («fine_energy» .entry)) (now («coarse_energy» .entry)))) (query (window bands (now (times .entry)) (now (energies .entry)) (now (values .entry)))))) (locallySearched (reachedIn reached) lock (trackedIn t)) ⌝ }
     ensures { λ r. ⌜ r .found .count ≤ 8 ⌝ }
 {
     if !due {
@@ -336,8 +337,8 @@ fn then_whole(
         filled,
         fine,
         coarse,
-        fine_squares,
-        coarse_squares,
+        fine_energy,
+        coarse_energy,
         reference_of(settings),
         bands,
         times,

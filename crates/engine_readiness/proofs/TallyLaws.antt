@@ -3,7 +3,7 @@ use Prim.Native.Nat.{ℕ, suc, _+_}
 use native.Mathlib.Numerals.{add-one}
 use mathlib.Core.Bool.{Bool, true, false}
 use mathlib.Core.Path.{_≡_, ap}
-use Rattle.engine_spec.specs.Readiness.{tally}
+use Rattle.numbers_spec.specs.Rows.{tally}
 
 pub tally-yes : (p : ℕ → Bool) (n : ℕ) {a : ℕ} → a ≡ tally p n → p n ≡ true → a + 1 ≡ tally p (n + 1)
 unfolding tally

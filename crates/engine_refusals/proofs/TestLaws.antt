@@ -6,7 +6,7 @@ use native.Mathlib.Nat.{mul-le-mul}
 use native.Mathlib.Omega.{arith}
 use borrow.Author.Tests.{lt-ltb}
 use lib.Dec.{T, ltb, leb, leb→le}
-use Rattle.engine_spec.specs.Limits.{framesMost, bandsMost}
+use Rattle.matcher_spec.specs.Limits.{framesMost, bandsMost}
 use Rattle.engine_spec.specs.Refusals.{countsInRange}
 use Rattle.engine_spec.proofs.Tests.{and-l, and-r}
 

@@ -3,7 +3,7 @@ ghost use Prim.Native.Nat.{_≤_};
 ghost use lib.ListN.{length};
 ghost use mathlib.Core.Path.{_≡_};
 ghost use Rattle.engine_spec.specs.Refusals.{handedRefusal, indexFits, openingRefusal, submissionRefusal, validWindow, workFits};
-ghost use Rattle.engine_spec.specs.Lent.{film, handed, lent, window};
+ghost use Rattle.engine_spec.specs.Lent.{handed, lent, window};
 use crate::ranges::are_near;
 use crate::ranges::are_near_or_not_finite;
 use crate::ranges::are_valid_energies;
@@ -11,14 +11,14 @@ use crate::ranges::is_hop;
 use crate::states::are_counts;
 use crate::states::is_valid_configuration;
 use crate::states::is_valid_engine;
-use engine_spec::limits::BANDS_MOST;
-use engine_spec::limits::WINDOW_MOST;
 use engine_spec::types::Answer;
 use engine_spec::types::ClockMs;
 use engine_spec::types::Configuration;
 use engine_spec::types::Engine;
 use engine_spec::types::Settings;
 use matcher_bands::timeline::are_valid;
+use matcher_spec::limits::BANDS_MOST;
+use matcher_spec::limits::WINDOW_MOST;
 use numbers::float::is_finite;
 
 // 6: the index holds a row of frames and one of a quarter of them for each band, with an energy more
@@ -28,16 +28,16 @@ fn index_fits(
     bands: usize,
     fine: &[f32],
     coarse: &[f32],
-    fine_squares: &[f64],
-    coarse_squares: &[f64],
+    fine_energy: &[f64],
+    coarse_energy: &[f64],
 ) -> bool
     requires { ⌜ frames ≤ 65535 ⌝ ∗ ⌜ bands ≤ 65535 ⌝ }
-    ensures { λ r. ⌜ r ≡ indexFits frames bands (lent (now (fine .entry)) (now (coarse .entry)) (now («fine_squares» .entry)) (now («coarse_squares» .entry))) ⌝ }
+    ensures { λ r. ⌜ r ≡ indexFits frames bands (lent (now (fine .entry)) (now (coarse .entry)) (now («fine_energy» .entry)) (now («coarse_energy» .entry))) ⌝ }
 {
     (bands * frames <= fine.len())
         & ((bands * (frames / 4) <= coarse.len())
-            & ((bands * (frames + 1) <= fine_squares.len())
-                & (bands * (frames / 4 + 1) <= coarse_squares.len())))
+            & ((bands * (frames + 1) <= fine_energy.len())
+                & (bands * (frames / 4 + 1) <= coarse_energy.len())))
 }
 
 // 1 to 6, in document 01's order. Sizes are tested before any product of them.
@@ -49,10 +49,10 @@ pub fn opening_refusal(
     values: &[f32],
     fine: &[f32],
     coarse: &[f32],
-    fine_squares: &[f64],
-    coarse_squares: &[f64],
+    fine_energy: &[f64],
+    coarse_energy: &[f64],
 ) -> Answer
-    ensures { λ r. ⌜ r ≡ openingRefusal configuration hop (film bands (now (times .entry)) (now (values .entry))) (lent (now (fine .entry)) (now (coarse .entry)) (now («fine_squares» .entry)) (now («coarse_squares» .entry))) ⌝ }
+    ensures { λ r. ⌜ r ≡ openingRefusal configuration hop (features bands (now (times .entry)) (now (values .entry))) (lent (now (fine .entry)) (now (coarse .entry)) (now («fine_energy» .entry)) (now («coarse_energy» .entry))) ⌝ }
 {
     let n = times.len();
     if !is_valid_configuration(configuration) {
@@ -70,7 +70,7 @@ pub fn opening_refusal(
     if !are_near_or_not_finite(times) {
         return Answer::ReferenceTimeTooFar;
     }
-    if !index_fits(n, bands, fine, coarse, fine_squares, coarse_squares) {
+    if !index_fits(n, bands, fine, coarse, fine_energy, coarse_energy) {
         return Answer::IndexTooShort;
     }
     Answer::Opened
@@ -104,8 +104,8 @@ fn handed_refusal(
     settings: Settings,
     fine: &[f32],
     coarse: &[f32],
-    fine_squares: &[f64],
-    coarse_squares: &[f64],
+    fine_energy: &[f64],
+    coarse_energy: &[f64],
     bands: usize,
     times: &[f64],
     energies: &[f64],
@@ -114,7 +114,7 @@ fn handed_refusal(
     room32: usize,
     room64: usize,
 ) -> Answer
-    ensures { λ r. ⌜ r ≡ handedRefusal settings (handed (lent (now (fine .entry)) (now (coarse .entry)) (now («fine_squares» .entry)) (now («coarse_squares» .entry))) (window bands (now (times .entry)) (now (energies .entry)) (now (values .entry))) clock room32 room64) ⌝ }
+    ensures { λ r. ⌜ r ≡ handedRefusal settings (handed (lent (now (fine .entry)) (now (coarse .entry)) (now («fine_energy» .entry)) (now («coarse_energy» .entry))) (window bands (now (times .entry)) (now (energies .entry)) (now (values .entry))) clock room32 room64) ⌝ }
 {
     let n = times.len();
     let frames = settings.reference_frames as usize;
@@ -124,8 +124,8 @@ fn handed_refusal(
         reference_bands,
         fine,
         coarse,
-        fine_squares,
-        coarse_squares,
+        fine_energy,
+        coarse_energy,
     ) {
         return Answer::IndexTooShort;
     }
@@ -161,8 +161,8 @@ pub fn submission_refusal(
     engine: Engine,
     fine: &[f32],
     coarse: &[f32],
-    fine_squares: &[f64],
-    coarse_squares: &[f64],
+    fine_energy: &[f64],
+    coarse_energy: &[f64],
     bands: usize,
     times: &[f64],
     energies: &[f64],
@@ -171,7 +171,7 @@ pub fn submission_refusal(
     room32: usize,
     room64: usize,
 ) -> Answer
-    ensures { λ r. ⌜ r ≡ submissionRefusal engine (handed (lent (now (fine .entry)) (now (coarse .entry)) (now («fine_squares» .entry)) (now («coarse_squares» .entry))) (window bands (now (times .entry)) (now (energies .entry)) (now (values .entry))) clock room32 room64) ⌝ }
+    ensures { λ r. ⌜ r ≡ submissionRefusal engine (handed (lent (now (fine .entry)) (now (coarse .entry)) (now («fine_energy» .entry)) (now («coarse_energy» .entry))) (window bands (now (times .entry)) (now (energies .entry)) (now (values .entry))) clock room32 room64) ⌝ }
 {
     if !is_valid_engine(engine) {
         return Answer::StateOutOfRange;
@@ -181,8 +181,8 @@ pub fn submission_refusal(
         settings,
         fine,
         coarse,
-        fine_squares,
-        coarse_squares,
+        fine_energy,
+        coarse_energy,
         bands,
         times,
         energies,

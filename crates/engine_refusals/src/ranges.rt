@@ -1,10 +1,11 @@
 // Ranges of numbers, and scans of lists for them.
 ghost use mathlib.Core.Path.{_≡_};
-ghost use Rattle.engine_spec.specs.Refusals.{every, hopInRange, near, nearOrNotFinite, trackNumber, validEnergy, within};
-use engine_spec::limits::FARTHEST_MS;
-use engine_spec::limits::HOP_LEAST;
-use engine_spec::limits::HOP_MOST;
-use engine_spec::limits::TRACK_MOST;
+ghost use Rattle.numbers_spec.specs.Rows.{every};
+ghost use Rattle.engine_spec.specs.Refusals.{hopInRange, near, nearOrNotFinite, trackNumber, validEnergy, within};
+use matcher_spec::limits::FARTHEST_MS;
+use matcher_spec::limits::HOP_LEAST;
+use matcher_spec::limits::HOP_MOST;
+use matcher_spec::limits::TRACK_MOST;
 use numbers::float::is_finite;
 
 // Whether x lies from -limit to limit.

@@ -4,9 +4,6 @@ ghost use Rattle.engine_spec.specs.Refusals.{bothOrNeither, countsInRange, vali
 use crate::ranges::is_hop;
 use crate::ranges::is_near;
 use crate::ranges::is_track_number;
-use engine_spec::limits::BANDS_MOST;
-use engine_spec::limits::CANDIDATES_MOST;
-use engine_spec::limits::FRAMES_MOST;
 use engine_spec::types::Configuration;
 use engine_spec::types::Endpoint;
 use engine_spec::types::Engine;
@@ -19,6 +16,9 @@ use engine_spec::types::Milestones;
 use engine_spec::types::RecordedMs;
 use engine_spec::types::Settings;
 use engine_spec::types::Snapshot;
+use matcher_spec::limits::BANDS_MOST;
+use matcher_spec::limits::CANDIDATES_MOST;
+use matcher_spec::limits::FRAMES_MOST;
 use numbers::float::is_finite;
 
 // A duration is finite and above 0; -0.0 is not.

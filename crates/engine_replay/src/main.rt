@@ -45,15 +45,15 @@ fn replay(list: &[u8]) -> Tally
     let mut state = [0u64; 106];
     let mut fine = [0.0f32; 1600];
     let mut coarse = [0.0f32; 400];
-    let mut fine_squares = [0.0f64; 1604];
-    let mut coarse_squares = [0.0f64; 404];
+    let mut fine_energy = [0.0f64; 1604];
+    let mut coarse_energy = [0.0f64; 404];
     replay_in(
         list,
         &mut state,
         &mut fine,
         &mut coarse,
-        &mut fine_squares,
-        &mut coarse_squares,
+        &mut fine_energy,
+        &mut coarse_energy,
     )
 }
 
@@ -63,8 +63,8 @@ fn replay_in(
     state: &mut [u64],
     fine: &mut [f32],
     coarse: &mut [f32],
-    fine_squares: &mut [f64],
-    coarse_squares: &mut [f64],
+    fine_energy: &mut [f64],
+    coarse_energy: &mut [f64],
 ) -> Tally
     requires { ⌜ length (now list) ≤ 65536 ⌝ }
 {
@@ -83,8 +83,8 @@ fn replay_in(
             state,
             fine,
             coarse,
-            fine_squares,
-            coarse_squares,
+            fine_energy,
+            coarse_energy,
         );
         sessions += opened;
         submissions += 1 - opened;
@@ -129,8 +129,8 @@ fn differs_at(
     state: &mut [u64],
     fine: &mut [f32],
     coarse: &mut [f32],
-    fine_squares: &mut [f64],
-    coarse_squares: &mut [f64],
+    fine_energy: &mut [f64],
+    coarse_energy: &mut [f64],
 ) -> usize
     requires { ⌜ at + 255 ≤ length (now list) ⌝ ∗ ⌜ session ≤ at ⌝ ∗ ⌜ length (now list) ≤ 65536 ⌝ }
     ensures { λ r. ⌜ r ≤ 1 ⌝ }
@@ -143,8 +143,8 @@ fn differs_at(
         state,
         fine,
         coarse,
-        fine_squares,
-        coarse_squares,
+        fine_energy,
+        coarse_energy,
     );
     let agreement = agreement_with(&list[at..end], found);
     if agrees(agreement) {
@@ -161,18 +161,18 @@ fn answers_to(
     state: &mut [u64],
     fine: &mut [f32],
     coarse: &mut [f32],
-    fine_squares: &mut [f64],
-    coarse_squares: &mut [f64],
+    fine_energy: &mut [f64],
+    coarse_energy: &mut [f64],
 ) -> Answers
     requires { ⌜ length (now line) ≡ 255 ⌝ ∗ ⌜ length (now head) ≡ 255 ⌝ }
 {
     if word_at(line, 0) == 0 {
         let o = opening::opening_of(line);
-        return opening::answers_to(o, state, fine, coarse, fine_squares, coarse_squares);
+        return opening::answers_to(o, state, fine, coarse, fine_energy, coarse_energy);
     }
     let o = opening::opening_of(head);
     let s = submission::submission_of(line);
-    submission::answers_to(o, s, state, fine, coarse, fine_squares, coarse_squares)
+    submission::answers_to(o, s, state, fine, coarse, fine_energy, coarse_energy)
 }
 
 // Writes which line differs, and in what.

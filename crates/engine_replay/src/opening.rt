@@ -67,17 +67,17 @@ pub fn answers_to(
     state: &mut [u64],
     fine: &mut [f32],
     coarse: &mut [f32],
-    fine_squares: &mut [f64],
-    coarse_squares: &mut [f64],
+    fine_energy: &mut [f64],
+    coarse_energy: &mut [f64],
 ) -> Answers
     requires { ⌜ 0 < o .period ⌝ }
 {
-    let answer = open(o, state, fine, coarse, fine_squares, coarse_squares);
+    let answer = open(o, state, fine, coarse, fine_energy, coarse_energy);
     let narrow = digest::with_narrow(digest::with_narrow(0, fine), coarse);
     Answers {
         answer: answer as u64,
         state: digest::with_words(0, state),
-        shown: digest::with_floats(digest::with_floats(narrow, fine_squares), coarse_squares),
+        shown: digest::with_floats(digest::with_floats(narrow, fine_energy), coarse_energy),
     }
 }
 
@@ -87,8 +87,8 @@ fn open(
     state: &mut [u64],
     fine: &mut [f32],
     coarse: &mut [f32],
-    fine_squares: &mut [f64],
-    coarse_squares: &mut [f64],
+    fine_energy: &mut [f64],
+    coarse_energy: &mut [f64],
 ) -> u32
     requires { ⌜ 0 < o .period ⌝ }
 {
@@ -108,8 +108,8 @@ fn open(
         faults::narrow_part(&values, faults::lent(o.fault, 8, size, size)),
         fine,
         coarse,
-        fine_squares,
-        coarse_squares,
+        fine_energy,
+        coarse_energy,
         state,
     )
 }

@@ -13,10 +13,10 @@ use crate::opening::some;
 use crate::sound;
 use crate::sound::Heard;
 use kistovab::calls::kistovab_submit;
+use kistovab::sizes::kistovab_coarse_energy_length;
 use kistovab::sizes::kistovab_coarse_length;
-use kistovab::sizes::kistovab_coarse_squares_length;
+use kistovab::sizes::kistovab_fine_energy_length;
 use kistovab::sizes::kistovab_fine_length;
-use kistovab::sizes::kistovab_fine_squares_length;
 use kistovab::sizes::kistovab_work32_length;
 use kistovab::sizes::kistovab_work64_length;
 
@@ -61,8 +61,8 @@ pub fn answers_to(
     state: &mut [u64],
     fine: &[f32],
     coarse: &[f32],
-    fine_squares: &[f64],
-    coarse_squares: &[f64],
+    fine_energy: &[f64],
+    coarse_energy: &[f64],
 ) -> Answers
     requires { ⌜ 0 < o .period ⌝ }
 {
@@ -88,16 +88,16 @@ pub fn answers_to(
             kistovab_coarse_length(o.frames, o.bands),
         ),
         faults::wide_lent(
-            fine_squares,
+            fine_energy,
             s.fault,
             3,
-            kistovab_fine_squares_length(o.frames, o.bands),
+            kistovab_fine_energy_length(o.frames, o.bands),
         ),
         faults::wide_lent(
-            coarse_squares,
+            coarse_energy,
             s.fault,
             4,
-            kistovab_coarse_squares_length(o.frames, o.bands),
+            kistovab_coarse_energy_length(o.frames, o.bands),
         ),
     )
 }
@@ -130,8 +130,8 @@ fn submit_within(
     state: &mut [u64],
     fine: &[f32],
     coarse: &[f32],
-    fine_squares: &[f64],
-    coarse_squares: &[f64],
+    fine_energy: &[f64],
+    coarse_energy: &[f64],
 ) -> Answers {
     let mut work32 = [0.0f32; 1200];
     let mut work64 = [0.0f64; 2215];
@@ -144,8 +144,8 @@ fn submit_within(
         state,
         fine,
         coarse,
-        fine_squares,
-        coarse_squares,
+        fine_energy,
+        coarse_energy,
         faults::said_bands(s.fault, bands),
         times,
         energies,

@@ -1,16 +1,15 @@
 -- A recorded session's answers are the recorded ones. Assumes nothing.
 use mathlib.Core.List.{List, [], _∷_}
 use mathlib.Core.Path.{_≡_, refl, ap, ap₂, _∙_}
-use Rattle.engine_spec.specs.Submitting.{submit}
 use Rattle.engine_spec.specs.Chain.{Answered}
 use Rattle.engine_spec.specs.Guarantee.{answersTo}
 use Rattle.engine_spec.specs.Refusals.{Submission}
 use Rattle.engine_spec.specs.declared.types.Engine.{Engine}
-use Rattle.engine_spec.specs.declared.types.Submitted.{Submitted}
+use Rattle.engine_spec.specs.declared.types.SubmitResult.{SubmitResult}
 use Rattle.engine_sessions.specs.Session.{Reply, refusal, again, answered, outcome, Turn, after, AllWork, end, turn, submissions, replied, allReplied, AnswersRecorded}
 
 -- what is seen of a submission
-abbrev seen : Submission → Submitted → Answered
+abbrev seen : Submission → SubmitResult → Answered
 seen i x = record { submission = i; answer = x .answer; snapshot = x .snapshot }
 
 seen-is : (e : Engine) (i : Submission) (r : Reply) → seen i (outcome e i r) ≡ replied (record { submission = i; reply = r })
@@ -23,7 +22,7 @@ along : (e : Engine) (l : List Turn) → AllWork e l → answersTo e (submission
 unfolding answersTo submissions allReplied
 along e [] end = refl
 along e (t ∷ l) (turn w rest) =
-    ap (λ (x : Submitted). seen (t .submission) x ∷ answersTo (x .engine) (submissions l)) w
+    ap (λ (x : SubmitResult). seen (t .submission) x ∷ answersTo (x .engine) (submissions l)) w
     ∙ ap₂ _∷_ (seen-is e (t .submission) (t .reply)) (along (after e t) l rest)
 
 pub answers-recorded : AnswersRecorded

@@ -5,11 +5,10 @@ use mathlib.Core.Path.{_≡_, refl, sym, ap, _∙_, subst}
 use lib.Dec.{T, lit<}
 use lib.ListN.{length, getD}
 use lib.Ieee.{Float, binary32, fits}
-use Rattle.matcher_spec.specs.Words.{Every, F32}
-use Rattle.engine_spec.specs.Refusals.{every}
+use Rattle.numbers_spec.specs.Rows.{Every, F32, every}
 use Rattle.engine_spec.specs.Chain.{Answered}
 use Rattle.engine_spec.specs.Guarantee.{remaining, isComputed, AllHanded, nothing, next, Handed, unanswered}
-use Rattle.engine_spec.specs.Opening.{opening, openedSettings, matcherOfFilm}
+use Rattle.engine_spec.specs.Opening.{opening, openedSettings, matcherOfReference}
 use Rattle.engine_spec.specs.Windows.{Window}
 use Rattle.engine_spec.specs.declared.types.ClockMs.{ClockMs}
 use Rattle.engine_spec.specs.declared.types.State.the-variants as state
@@ -20,7 +19,7 @@ use Rattle.engine_spec.proofs.Run.{guarantee}
 use Rattle.engine_sessions.specs.Computed.{submitNow}
 use Rattle.engine_sessions.specs.Session.{roomFor, submissions, replied, allReplied}
 use Rattle.engine_sessions.specs.NotEmpty.{left, Locks}
-use Rattle.engine_sessions.specs.ByAChain.{configuration, hop, film, index, window1, window2, window3, window4, window5, window6, window7, window8, session}
+use Rattle.engine_sessions.specs.ByAChain.{configuration, hop, reference, index, window1, window2, window3, window4, window5, window6, window7, window8, session}
 use Rattle.engine_sessions.proofs.ByAChain.{recorded}
 use Rattle.engine_sessions.proofs.Answers.{answers-recorded}
 
@@ -28,20 +27,20 @@ use Rattle.engine_sessions.proofs.Answers.{answers-recorded}
 all-f32 : (l : List Float) → T (every (fits binary32) l) → Every F32 l
 all-f32 l h i k = every-at (fits binary32) l i h k
 
-opened : opening configuration hop film (roomFor film) .answer ≡ answer.Opened
+opened : opening configuration hop reference (roomFor reference) .answer ≡ answer.Opened
 unfolding submitNow
 opened = refl
 
-film-held : Every F32 (film .values)
+reference-held : Every F32 (reference .values)
 unfolding submitNow fits
-film-held = all-f32 (film .values) tt
+reference-held = all-f32 (reference .values) tt
 
 -- ---- each submission has the index that opening filled
 handed : {room32 room64 : ℕ} (w : Window) (clock : ClockMs) → Every F32 (w .values)
-    → Handed (openedSettings configuration hop film) (matcherOfFilm hop film) (record { index = index; window = w; clock = clock; room32 = room32; room64 = room64 })
-handed w clock h = record { index = λ there fits. opened-filled configuration hop film (roomFor film) opened there; held = h }
+    → Handed (openedSettings configuration hop reference) (matcherOfReference hop reference) (record { index = index; window = w; clock = clock; room32 = room32; room64 = room64 })
+handed w clock h = record { index = λ there fits. opened-filled configuration hop reference (roomFor reference) opened there; held = h }
 
-all-handed : AllHanded (openedSettings configuration hop film) (matcherOfFilm hop film) (submissions (session .turns))
+all-handed : AllHanded (openedSettings configuration hop reference) (matcherOfReference hop reference) (submissions (session .turns))
 unfolding submissions submitNow fits
 all-handed =
     next (handed window1 _ (all-f32 (window1 .values) tt))
@@ -73,11 +72,11 @@ locked-recorded = refl
 
 pub locks : Locks session
 locks =
-    let promised = guarantee configuration hop film (roomFor film) film-held opened (submissions (session .turns)) all-handed in
+    let promised = guarantee configuration hop reference (roomFor reference) reference-held opened (submissions (session .turns)) all-handed in
     let some : 3 < length (left session) = subst (λ (l : List Answered). 3 < length l) (sym left-is) some-recorded in
     let locked : getD (left session) 3 unanswered .snapshot .state ≡ state.Locked = ap (λ (l : List Answered). getD l 3 unanswered .snapshot .state) left-is ∙ locked-recorded in
     record {
-      held = film-held;
+      held = reference-held;
       opened = opened;
       handed = all-handed;
       promised = promised;

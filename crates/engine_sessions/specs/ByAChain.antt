@@ -3,8 +3,9 @@
 use mathlib.Core.Bool.{true, false}
 use mathlib.Core.List.{[], _∷_}
 use lib.IntN.{pos, negsuc}
-use lib.Ieee.{Float, fin, inf, nan}
-use Rattle.engine_spec.specs.Windows.{Soundtrack, Index, Window}
+use lib.Ieee.{Float, fin, inf}
+use Rattle.engine_spec.specs.Windows.{Index, Window}
+use Rattle.matcher_spec.specs.Features.{Features}
 use Rattle.engine_spec.specs.Opening.{openedIndex}
 use Rattle.engine_spec.specs.declared.types.Configuration.{Configuration}
 use Rattle.engine_spec.specs.declared.types.Snapshot.{Snapshot}
@@ -17,7 +18,7 @@ use Rattle.engine_spec.specs.declared.types.Maybe.the-variants as maybe
 use Rattle.engine_spec.specs.declared.types.Milestone.the-variants as milestone
 use Rattle.engine_spec.specs.declared.types.Hypothesis.the-variants as hypothesis
 use Rattle.engine_spec.specs.declared.types.Answer.the-variants as answer
-use Rattle.engine_sessions.specs.Session.{Session, Turn, roomFor, noIndex, heard, heardWithoutWork, eight, refusal, again, answered}
+use Rattle.engine_sessions.specs.Session.{Session, Turn, roomFor, heard, heardWithoutWork, eight, refusal, answered}
 
 abbrev pub configuration : Configuration
 configuration = record { «minimum_readiness_duration_ms» = fin false 125 (pos 4); «tracking_query_duration_ms» = fin false 125 (pos 3); «minimum_active_frame_energy_dbfs» = fin true 13 (pos 1); «minimum_average_energy_dbfs» = fin true 31 (pos 0); «minimum_active_frame_fraction» = fin false 1 (negsuc 2) }
@@ -25,11 +26,11 @@ configuration = record { «minimum_readiness_duration_ms» = fin false 125 (pos 
 abbrev pub hop : Float
 hop = fin false 125 (pos 1)
 
-abbrev pub film : Soundtrack
-film = record { bands = 1; times = fin true 125 (pos 4) ∷ fin true 875 (pos 1) ∷ fin true 375 (pos 2) ∷ fin true 625 (pos 1) ∷ fin true 125 (pos 3) ∷ fin true 375 (pos 1) ∷ fin true 125 (pos 2) ∷ fin true 125 (pos 1) ∷ fin false 0 (pos 0) ∷ fin false 125 (pos 1) ∷ fin false 125 (pos 2) ∷ fin false 375 (pos 1) ∷ fin false 125 (pos 3) ∷ fin false 625 (pos 1) ∷ fin false 375 (pos 2) ∷ fin false 875 (pos 1) ∷ fin false 125 (pos 4) ∷ fin false 1125 (pos 1) ∷ fin false 625 (pos 2) ∷ fin false 1375 (pos 1) ∷ fin false 375 (pos 3) ∷ fin false 1625 (pos 1) ∷ fin false 875 (pos 2) ∷ []; values = fin false 1 (negsuc 1) ∷ fin false 1 (pos 0) ∷ fin false 15 (negsuc 1) ∷ fin false 3 (pos 0) ∷ fin false 15 (negsuc 1) ∷ fin false 1 (pos 0) ∷ fin false 1 (pos 1) ∷ fin false 0 (pos 0) ∷ fin false 3 (pos 0) ∷ fin false 1 (negsuc 1) ∷ fin false 1 (pos 1) ∷ fin false 1 (pos 0) ∷ fin false 1 (negsuc 0) ∷ fin false 1 (negsuc 1) ∷ fin false 15 (negsuc 1) ∷ fin false 1 (negsuc 1) ∷ fin false 1 (pos 1) ∷ fin false 3 (pos 0) ∷ fin false 3 (pos 0) ∷ fin false 1 (negsuc 0) ∷ fin false 1 (pos 0) ∷ fin false 15 (negsuc 1) ∷ fin false 1 (pos 0) ∷ [] }
+abbrev pub reference : Features
+reference = record { bands = 1; times = fin true 125 (pos 4) ∷ fin true 875 (pos 1) ∷ fin true 375 (pos 2) ∷ fin true 625 (pos 1) ∷ fin true 125 (pos 3) ∷ fin true 375 (pos 1) ∷ fin true 125 (pos 2) ∷ fin true 125 (pos 1) ∷ fin false 0 (pos 0) ∷ fin false 125 (pos 1) ∷ fin false 125 (pos 2) ∷ fin false 375 (pos 1) ∷ fin false 125 (pos 3) ∷ fin false 625 (pos 1) ∷ fin false 375 (pos 2) ∷ fin false 875 (pos 1) ∷ fin false 125 (pos 4) ∷ fin false 1125 (pos 1) ∷ fin false 625 (pos 2) ∷ fin false 1375 (pos 1) ∷ fin false 375 (pos 3) ∷ fin false 1625 (pos 1) ∷ fin false 875 (pos 2) ∷ []; values = fin false 1 (negsuc 1) ∷ fin false 1 (pos 0) ∷ fin false 15 (negsuc 1) ∷ fin false 3 (pos 0) ∷ fin false 15 (negsuc 1) ∷ fin false 1 (pos 0) ∷ fin false 1 (pos 1) ∷ fin false 0 (pos 0) ∷ fin false 3 (pos 0) ∷ fin false 1 (negsuc 1) ∷ fin false 1 (pos 1) ∷ fin false 1 (pos 0) ∷ fin false 1 (negsuc 0) ∷ fin false 1 (negsuc 1) ∷ fin false 15 (negsuc 1) ∷ fin false 1 (negsuc 1) ∷ fin false 1 (pos 1) ∷ fin false 3 (pos 0) ∷ fin false 3 (pos 0) ∷ fin false 1 (negsuc 0) ∷ fin false 1 (pos 0) ∷ fin false 15 (negsuc 1) ∷ fin false 1 (pos 0) ∷ [] }
 
 abbrev pub index : Index
-index = openedIndex configuration hop film (roomFor film)
+index = openedIndex configuration hop reference (roomFor reference)
 
 -- ---- 1, a first passing search
 abbrev pub window1 : Window
@@ -326,4 +327,4 @@ abbrev pub turn8 : Turn
 turn8 = record { submission = heard 23 index window8 (fin false 1 (pos 3)); reply = answered snapshot8 (record { pending = hypothesis.Absent; accepted = hypothesis.Held (fin true 6668336725062373 (negsuc 40)) (record { 0 = fin false 3125 (pos 1) }) (record { 0 = fin false 3275 (pos 1) }) (fin false 8396204204430489 (negsuc 52)); «last_global_search_ms» = record { 0 = fin false 4025 (pos 1) } }) }
 
 abbrev pub session : Session
-session = record { configuration = configuration; hop = hop; film = film; turns = turn1 ∷ turn2 ∷ turn3 ∷ turn4 ∷ turn5 ∷ turn6 ∷ turn7 ∷ turn8 ∷ [] }
+session = record { configuration = configuration; hop = hop; reference = reference; turns = turn1 ∷ turn2 ∷ turn3 ∷ turn4 ∷ turn5 ∷ turn6 ∷ turn7 ∷ turn8 ∷ [] }

@@ -3,8 +3,8 @@ use Prim.Native.Nat.{ℕ, _<_}
 use mathlib.Core.List.{List}
 use mathlib.Core.Path.{_≡_}
 use lib.ListN.{length, getD}
-use Rattle.matcher_spec.specs.Words.{Every, F32}
-use Rattle.engine_spec.specs.Opening.{opening, openedSettings, matcherOfFilm}
+use Rattle.numbers_spec.specs.Rows.{Every, F32}
+use Rattle.engine_spec.specs.Opening.{opening, openedSettings, matcherOfReference}
 use Rattle.engine_spec.specs.Chain.{Answered, OnChain}
 use Rattle.engine_spec.specs.Guarantee.{answersTo, remaining, AllHanded, Promised, unanswered}
 use Rattle.engine_spec.specs.declared.types.State.the-variants as state
@@ -17,11 +17,11 @@ left s = remaining (answersTo (engineOf s) (submissions (s .turns)))
 
 pub record Locks (s : Session) : Type 0 where
   -- opening is answered, the reference is one of f32, and so are the windows; the index is as opening filled it
-  pub held : Every F32 (s .film .values)
-  pub opened : opening (s .configuration) (s .hop) (s .film) (roomFor (s .film)) .answer ≡ answer.Opened
-  pub handed : AllHanded (openedSettings (s .configuration) (s .hop) (s .film)) (matcherOfFilm (s .hop) (s .film)) (submissions (s .turns))
+  pub held : Every F32 (s .reference .values)
+  pub opened : opening (s .configuration) (s .hop) (s .reference) (roomFor (s .reference)) .answer ≡ answer.Opened
+  pub handed : AllHanded (openedSettings (s .configuration) (s .hop) (s .reference)) (matcherOfReference (s .hop) (s .reference)) (submissions (s .turns))
   -- so all is promised of the list,
-  pub promised : Promised (engineOf s) (matcherOfFilm (s .hop) (s .film)) (submissions (s .turns))
+  pub promised : Promised (engineOf s) (matcherOfReference (s .hop) (s .reference)) (submissions (s .turns))
   -- its third remaining answer is not Locked yet, its fourth is,
   pub some : 3 < length (left s)
   pub locking : getD (left s) 2 unanswered .snapshot .state ≡ state.Locking

@@ -6,8 +6,9 @@ use mathlib.Core.Path.{_≡_}
 use lib.ListN.{length, replicate}
 use lib.Ieee.{Float}
 use Rattle.numbers_spec.specs.Arithmetic.{zero⁺}
-use Rattle.matcher_spec.specs.Peaks.{most}
-use Rattle.engine_spec.specs.Windows.{Soundtrack, Index, Window, endpointOf}
+use Rattle.matcher_spec.specs.Limits.{candidatesMost}
+use Rattle.engine_spec.specs.Windows.{Index, Window, endpointOf}
+use Rattle.matcher_spec.specs.Features.{Features}
 use Rattle.engine_spec.specs.Refusals.{Submission}
 use Rattle.engine_spec.specs.Opening.{blankCandidate, blankSnapshot, opening}
 use Rattle.engine_spec.specs.Submitting.{submit, refused}
@@ -18,25 +19,25 @@ use Rattle.engine_spec.specs.declared.types.Lock.{Lock}
 use Rattle.engine_spec.specs.declared.types.CandidateDiagnostics.{CandidateDiagnostics}
 use Rattle.engine_spec.specs.declared.types.Snapshot.{Snapshot}
 use Rattle.engine_spec.specs.declared.types.Engine.{Engine}
-use Rattle.engine_spec.specs.declared.types.Submitted.{Submitted}
+use Rattle.engine_spec.specs.declared.types.SubmitResult.{SubmitResult}
 use Rattle.engine_spec.specs.declared.types.Endpoint.the-variants as endpoint
 use Rattle.engine_spec.specs.declared.types.Answer.{Answer}
 use Rattle.engine_spec.specs.declared.types.Answer.the-variants as answer
 
 -- ---- what is handed in
 -- Buffers as long as opening asks of them, full of zeros.
-abbrev pub roomFor : Soundtrack → Index
-roomFor film =
-    let n = length (film .times) in
+abbrev pub roomFor : Features → Index
+roomFor reference =
+    let n = length (reference .times) in
     record {
-      fine = replicate (film .bands * n) zero⁺;
-      coarse = replicate (film .bands * (n / 4)) zero⁺;
-      fineSquares = replicate (film .bands * (n + 1)) zero⁺;
-      coarseSquares = replicate (film .bands * (n / 4 + 1)) zero⁺;
+      fine = replicate (reference .bands * n) zero⁺;
+      coarse = replicate (reference .bands * (n / 4)) zero⁺;
+      fineEnergy = replicate (reference .bands * (n + 1)) zero⁺;
+      coarseEnergy = replicate (reference .bands * (n / 4 + 1)) zero⁺;
     }
 
 abbrev pub noIndex : Index
-noIndex = record { fine = []; coarse = []; fineSquares = []; coarseSquares = [] }
+noIndex = record { fine = []; coarse = []; fineEnergy = []; coarseEnergy = [] }
 
 -- A window with an index and with working buffers as long as a submission asks, for a reference of N frames.
 abbrev pub heard : ℕ → Index → Window → Float → Submission
@@ -55,7 +56,7 @@ heardWithoutWork x w clock = record { index = x; window = w; clock = record { 0 
 -- ---- what came of it
 -- The candidates of a snapshot, as the array of 8.
 abbrev pub eight : List CandidateDiagnostics → List CandidateDiagnostics
-eight l = l ++ replicate (most - length l) blankCandidate
+eight l = l ++ replicate (candidatesMost - length l) blankCandidate
 
 -- A refusal, a re-reading, or a computed answer with the lock that the Rust then holds.
 pub data Reply : Type 0 where
@@ -64,7 +65,7 @@ pub data Reply : Type 0 where
   answered : Snapshot → Lock → Reply
 
 -- What the submission has to give back: the Rust's snapshot and, in the next state, the Rust's lock, milestones, endpoint and last snapshot.
-abbrev pub outcome : Engine → Submission → Reply → Submitted
+abbrev pub outcome : Engine → Submission → Reply → SubmitResult
 outcome e i (refusal r) = refused e r
 outcome e i (again n) = record { answer = answer.Reread; engine = e; snapshot = n }
 outcome e i (answered n l) = record {
@@ -81,11 +82,11 @@ pub record Turn : Type 0 where
 pub record Session : Type 0 where
   pub configuration : Configuration
   pub hop : Float
-  pub film : Soundtrack
+  pub reference : Features
   pub turns : List Turn
 
 abbrev pub engineOf : Session → Engine
-engineOf s = opening (s .configuration) (s .hop) (s .film) (roomFor (s .film)) .engine
+engineOf s = opening (s .configuration) (s .hop) (s .reference) (roomFor (s .reference)) .engine
 
 unfoldable pub submissions : List Turn → List Submission
 submissions [] = []

@@ -14,9 +14,8 @@ use lib.IntN.{ℤ}
 use lib.Ieee.{Float, nan, inf, fin, binary64, fits, eq, lt, neg, up, down}
 use lib.Ieee.Fits.{neg-fits, up-pos}
 use lib.Ieee.Back.{whole-unique}
-use Rattle.numbers_spec.specs.Arithmetic.{zero⁺}
-use Rattle.numbers_spec.specs.Values.{magnitude}
-use Rattle.matcher_spec.specs.Peaks.{most}
+use Rattle.numbers_spec.specs.Arithmetic.{zero⁺, magnitude}
+use Rattle.matcher_spec.specs.Limits.{candidatesMost}
 use Rattle.matcher_spec.specs.declared.types.Candidate.{Candidate}
 use Rattle.engine_spec.specs.Windows.{Window}
 use Rattle.engine_spec.specs.Opening.{blankCandidate}
@@ -60,7 +59,7 @@ module _ (hop : Float) (w : Window) where
   all-shown (c ∷ l) = ap (λ (x : List CandidateDiagnostics). shown (comparableFrames hop w) (coverage w) c ∷ x) (all-shown l)
 
   pub array-shown : (l : List Candidate) → shownArray (comparableFrames hop w) (coverage w) l ≡ candidateArray hop w l
-  array-shown l = ap (λ (x : List CandidateDiagnostics). x ++ replicate (most - length l) blankCandidate) (all-shown l)
+  array-shown l = ap (λ (x : List CandidateDiagnostics). x ++ replicate (candidatesMost - length l) blankCandidate) (all-shown l)
 
 -- ---- magnitudes
 is-T : {b : Bool} → b ≡ true → T b

@@ -3,7 +3,7 @@ use Prim.Native.Nat.{ℕ, _-_}
 use mathlib.Core.List.{List, [], _∷_, _++_}
 use lib.ListN.{length, replicate}
 use lib.Ieee.{Float}
-use Rattle.matcher_spec.specs.Peaks.{most}
+use Rattle.matcher_spec.specs.Limits.{candidatesMost}
 use Rattle.matcher_spec.specs.declared.types.Candidate.{Candidate}
 use Rattle.engine_spec.specs.Opening.{blankCandidate}
 use Rattle.engine_spec.specs.declared.types.CandidateDiagnostics.{CandidateDiagnostics}
@@ -23,4 +23,4 @@ shownAll n r [] = []
 shownAll n r (c ∷ cs) = shown n r c ∷ shownAll n r cs
 
 abbrev pub shownArray : ℕ → Float → List Candidate → List CandidateDiagnostics
-shownArray n r found = shownAll n r found ++ replicate (most - length found) blankCandidate
+shownArray n r found = shownAll n r found ++ replicate (candidatesMost - length found) blankCandidate

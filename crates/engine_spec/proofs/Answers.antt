@@ -20,9 +20,9 @@ use Rattle.engine_spec.specs.Tracking.{Tracked, tracked, followed, suppo
 use Rattle.engine_spec.specs.Locking.{Reached, Searched, searched, wholeDue, wholeSearched, passed, passing, confirms, firstEvidence, keptOrReplaced}
 use Rattle.engine_spec.specs.Publishing.{Verdict, Decision, publish, ready, unready, verdictOf, ambiguous, candidatesShown, candidateArray}
 use Rattle.engine_spec.specs.SupportAge.{isLocked}
-use Rattle.engine_spec.specs.Chain.{silent, bestOffset}
+use Rattle.engine_spec.specs.Chain.{interrupting, bestOffset}
 use Rattle.engine_spec.specs.Guarantee.{Shows}
-use Rattle.engine_spec.specs.Reached.{unreachable}
+use Rattle.engine_spec.specs.Guaranteed.{unreachable}
 use Rattle.engine_spec.specs.declared.types.RecordedMs.{RecordedMs}
 use Rattle.engine_spec.specs.declared.types.Settings.{Settings}
 use Rattle.engine_spec.specs.declared.types.Lock.{Lock}
@@ -121,8 +121,8 @@ shows-whole s w d ms g =
     record { count = refl; candidates = refl; correlation = refl; margin = rw e; first-half = refl; second-half = refl; recent = refl; dense-margin = rw e; coarse-ambiguous = rw e }
 
 -- ---- a window that could not be searched
-quiet-state : (indexed confirmed : Bool) → T (silent (cond indexed (cond confirmed state.Lost state.Listening) state.Failed))
-unfolding silent
+quiet-state : (indexed confirmed : Bool) → T (interrupting (cond indexed (cond confirmed state.Lost state.Listening) state.Failed))
+unfolding interrupting
 quiet-state true true = tt
 quiet-state true false = tt
 quiet-state false confirmed = tt
@@ -144,13 +144,13 @@ silenced s w k l r ms h = record {
 }
 
 -- ---- the states and reasons of a window that was searched
-loud-off : (confirmed : Bool) → T (not (silent (cond confirmed state.Relocking state.Locking)))
-unfolding silent
+loud-off : (confirmed : Bool) → T (not (interrupting (cond confirmed state.Relocking state.Locking)))
+unfolding interrupting
 loud-off true = tt
 loud-off false = tt
 
-loud-on : (final : Bool) → T (not (silent (cond final state.Locked state.Confirmed)))
-unfolding silent
+loud-on : (final : Bool) → T (not (interrupting (cond final state.Locked state.Confirmed)))
+unfolding interrupting
 loud-on true = tt
 loud-on false = tt
 
@@ -189,11 +189,11 @@ now-coasts now last f e = subst (λ (x : Float). T (le x coastMostMs)) (sym (ap 
 
 -- ---- a window that was searched, by the track a that its searches x left
 module _ (x : Searched) (now : RecordedMs) where
-  loud : (a : Hypothesis) → T (not (silent (verdictOf a now x .state)))
+  loud : (a : Hypothesis) → T (not (interrupting (verdictOf a now x .state)))
   unfolding verdictOf
   loud hypothesis.Absent = loud-off (x .reached .confirmed)
   loud (hypothesis.Held offset first last c) =
-      cond-elim (λ (v : Verdict). T (not (silent (v .state)))) (mayCoast now last) _ _ (λ h. loud-on (x .reached .final)) (λ h. loud-off (x .reached .confirmed))
+      cond-elim (λ (v : Verdict). T (not (interrupting (v .state)))) (mayCoast now last) _ _ (λ h. loud-on (x .reached .final)) (λ h. loud-off (x .reached .confirmed))
 
   usual : (a : Hypothesis) → (T (isHeld a) → T (x .reached .final)) → unreachable (verdictOf a now x .state) ≡ false
   unfolding verdictOf

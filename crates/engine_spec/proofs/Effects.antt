@@ -19,9 +19,9 @@ use Rattle.engine_spec.specs.Readiness.{isNone}
 use Rattle.engine_spec.specs.Tracking.{mayCoast}
 use Rattle.engine_spec.specs.Locking.{Reached, Searched, passing, firstEvidence, startedOrCarried, heldOrDropped, confirms, afterPassing, afterChain}
 use Rattle.engine_spec.specs.Publishing.{ofBest}
-use Rattle.engine_spec.specs.Chain.{silent, bestOffset}
+use Rattle.engine_spec.specs.Chain.{interrupting, bestOffset}
 use Rattle.engine_spec.specs.Guarantee.{estimated}
-use Rattle.engine_spec.specs.Reached.{unreachable}
+use Rattle.engine_spec.specs.Guaranteed.{unreachable}
 use Rattle.engine_spec.specs.declared.types.RecordedMs.{RecordedMs}
 use Rattle.engine_spec.specs.declared.types.Settings.{Settings}
 use Rattle.engine_spec.specs.declared.types.Lock.{Lock}
@@ -101,7 +101,7 @@ pub data TrackShown (n : Snapshot) (now : RecordedMs) : Hypothesis → Type 0 wh
 -- All of a snapshot after the searches s.
 pub record View (hop : Float) (w : Window) (s : Searched) (n : Snapshot) : Type 0 where
   pub shown : Shown n (s .global) (s .found)
-  pub loud : T (not (silent (n .state)))
+  pub loud : T (not (interrupting (n .state)))
   pub reason : isNone (n .«withhold_reason») ≡ s .supported
   pub track : TrackShown n (evidence hop w) (s .lock .accepted)
   pub usual : (T (isHeld (s .lock .accepted)) → T (s .reached .final)) → unreachable (n .state) ≡ false
@@ -109,6 +109,6 @@ pub record View (hop : Float) (w : Window) (s : Searched) (n : Snapshot) : Type 
 -- All of a snapshot of a window that could not be searched.
 pub record Silence (n : Snapshot) : Type 0 where
   pub shown : Shown n false []
-  pub quiet : T (silent (n .state))
+  pub quiet : T (interrupting (n .state))
   pub withheld : T (not (isNone (n .«withhold_reason»)))
   pub usual : unreachable (n .state) ≡ false

@@ -11,9 +11,9 @@ use lib.Ieee.{Float, nan, inf, fin, binary64, up, down, round, sum, add, sub, ne
 use lib.Ieee.Fits.{sub-fits}
 use lib.Ieee.Back.{whole-unique}
 use lib.Ieee.Scale.{finite}
-use Rattle.numbers_spec.specs.Arithmetic.{_⊖_, zero⁺, atLeast}
+use Rattle.numbers_spec.specs.Arithmetic.{_⊖_, zero⁺, atLeast, magnitude}
 use Rattle.numbers_spec.proofs.Value.{finite-no-nan}
-use Rattle.numbers_spec.specs.Values.{Number, magnitude}
+use Rattle.numbers_spec.specs.Values.{Number}
 use Rattle.numbers_spec.proofs.Order.{tested→ordered, below→le, cross, neg-finite, le-transitive, le-total, not-lt→le, magnitude-above, between-at-most}
 use Rattle.numbers_spec.proofs.Rounding.{sided, sided-number, round-sided}
 use Rattle.numbers_spec.proofs.Sums.{add-rounded, sub-mono, distance-symmetric}

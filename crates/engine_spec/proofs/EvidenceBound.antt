@@ -6,16 +6,16 @@ use lib.IntN.{pos}
 use lib.Count.{trailingZeros}
 use lib.Ieee.{Float, fin, binary64, le, lt, eq, neg, add, mul, div, sum, ofBits, ofFields, odd, round, units, size, span, climb}
 use lib.Ieee.Scale.{finite}
-use Rattle.numbers_spec.specs.Arithmetic.{_⊕_, _⊖_, _⊗_, _⊘_, one}
+use Rattle.numbers_spec.specs.Arithmetic.{_⊕_, _⊖_, _⊗_, _⊘_, one, magnitude}
 use Rattle.numbers_spec.specs.Whole.{wholeNearest}
 use Rattle.numbers_spec.proofs.Value.{finite-no-nan}
-use Rattle.numbers_spec.specs.Values.{magnitude, AtMost, Between}
+use Rattle.numbers_spec.specs.Values.{AtMost, Between}
 use Rattle.numbers_spec.proofs.Order.{le-transitive, magnitude-above, at-most-between, between-at-most, at-most-finite}
 use Rattle.numbers_spec.proofs.Sums.{sub-at-most}
 use Rattle.numbers_spec.proofs.Products.{mul-at-most, div-at-most}
 use Rattle.numbers_spec.proofs.WholeLaws.{round-laws}
 use Rattle.matcher_spec.specs.Centring.{contextMs, contextFrames}
-use Rattle.engine_spec.specs.Limits.{hopMost, farthestMs, trackMost}
+use Rattle.matcher_spec.specs.Limits.{hopMost, farthestMs, trackMost}
 use Rattle.engine_spec.specs.Windows.{Window, endpointOf, evidence}
 use Rattle.engine_spec.specs.Refusals.{within, near, hopInRange, trackNumber}
 use Rattle.engine_spec.proofs.Tests.{and-l, and-r, and-i, T-is}

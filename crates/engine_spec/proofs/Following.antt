@@ -14,7 +14,7 @@ use Rattle.matcher_spec.specs.Centring.{contextFrames}
 use Rattle.engine_spec.specs.Thresholds.{coastMostMs, rereadMs}
 use Rattle.engine_spec.specs.Windows.{endpointOf, evidence, _after_}
 use Rattle.engine_spec.specs.Readiness.{isNone}
-use Rattle.engine_spec.specs.Chain.{Answered, windowAt, shownAt, spectralAt, when, jumpAt, silent, interrupts, EndsChain, OnChain, Coasts}
+use Rattle.engine_spec.specs.Chain.{Answered, windowAt, shownAt, spectralAt, when, jumpAt, interrupting, interrupts, EndsChain, OnChain, Coasts}
 use Rattle.engine_spec.specs.Guarantee.{estimated}
 use Rattle.engine_spec.specs.declared.types.RecordedMs.{RecordedMs}
 use Rattle.engine_spec.specs.declared.types.Hypothesis.{Hypothesis}
@@ -83,7 +83,7 @@ module _ (hop : Float) (a : ℕ → Answered) where
     last-is = e;
   }
 
-  pub track-step : (n : ℕ) (lock : Bool) (old new : Hypothesis) (supported : Bool) → T (not (silent (shownAt hop a n .state))) → isNone (shownAt hop a n .«withhold_reason») ≡ supported
+  pub track-step : (n : ℕ) (lock : Bool) (old new : Hypothesis) (supported : Bool) → T (not (interrupting (shownAt hop a n .state))) → isNone (shownAt hop a n .«withhold_reason») ≡ supported
       → (T lock → EndsChain hop a n) → Tracked n old → Track (when hop a n) lock old new supported → Accepted (suc n) new
   track-step n lock old new supported q r d tr gone = no-track
   track-step n lock old new supported q r d tr (set {l = l} h (inl u)) =
@@ -93,10 +93,10 @@ module _ (hop : Float) (a : ℕ → Answered) where
       on-track (follows-now n l h (subst (λ (b : Bool). T b) (sym r) tt) (g .chain) (let o = g .order in omega arith) (g .ends)
       (λ k x y. elim (below-or k n y) [
         | inl b ↦ g .unbroken k x b
-        | inr e ↦ subst (λ (m : ℕ). T (not (interrupts hop a m))) (sym e) (not-or (jumpAt hop a n) (silent (shownAt hop a n .state)) j q)
+        | inr e ↦ subst (λ (m : ℕ). T (not (interrupts hop a m))) (sym e) (not-or (jumpAt hop a n) (interrupting (shownAt hop a n .state)) j q)
       ]))
   track-step n lock old new supported q r d (still j g) (kept {l = l}) =
-      on-track (follows-up n l g (not-or (jumpAt hop a n) (silent (shownAt hop a n .state)) j q) (subst (λ (b : Bool). T (not b)) (sym r) tt))
+      on-track (follows-up n l g (not-or (jumpAt hop a n) (interrupting (shownAt hop a n .state)) j q) (subst (λ (b : Bool). T (not b)) (sym r) tt))
 
   -- ---- the coast
   -- The answer n is computed anew: without a jump its endpoint lies 90 past the one before.
@@ -116,7 +116,7 @@ module _ (hop : Float) (a : ℕ → Answered) where
       (E now (le-refl (suc now))) (E n (omega arith)) f (tm .evidence from (omega arith)) (tm .evidence now (le-refl (suc now)))
       (later hop a (suc now) f tm from n (omega arith) (omega arith) (λ k x y. u k x (omega arith)))
       (later hop a (suc now) f tm n now (omega arith) (le-refl (suc now)) (λ k x y. u k (omega arith) (omega arith)))
-      (w (not-or-l (jumpAt hop a now) (silent (shownAt hop a now .state)) (u now (omega arith) (le-refl (suc now)))))
+      (w (not-or-l (jumpAt hop a now) (interrupting (shownAt hop a now .state)) (u now (omega arith) (le-refl (suc now)))))
 
   -- and the answer itself
   since-itself : (n : ℕ) → T (finite (when hop a n .0)) → atLeast zero⁺ (when hop a n after when hop a n) ≡ when hop a n after when hop a n

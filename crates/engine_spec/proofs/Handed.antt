@@ -1,5 +1,5 @@
 -- What a submission that is not refused gives: each test of `handedRefusal` passed, its times lie within ±10 ^ 12, and so its window is one that searches are sound of. Assumes nothing.
-use Prim.Native.Nat.{ℕ, zero, suc, _-_, _*_, _^_, _≤_, _<_}
+use Prim.Native.Nat.{ℕ, zero, suc, _-_, _*_, _≤_, _<_}
 use native.Mathlib.Nat.{le-refl, not-suc-le-zero}
 use native.Mathlib.Omega.{arith}
 use mathlib.Core.Bool.{Bool, true, false, _&&_}
@@ -13,14 +13,13 @@ use lib.Ieee.{Float, nan, le, neg, ofBits, ofFields, odd}
 use lib.Ieee.Scale.{finite}
 use Rattle.numbers_spec.specs.Values.{Within}
 use Rattle.numbers_spec.proofs.Order.{between-at-most}
-use Rattle.numbers_spec.specs.Rows.{allTo}
+use Rattle.numbers_spec.specs.Rows.{allTo, Every, F32, every}
 use Rattle.matcher_spec.specs.Timeline.{validValues}
-use Rattle.matcher_spec.specs.Words.{Every, F32}
 use Rattle.matcher_spec.specs.SoundSearch.{GoodWindow}
 use Rattle.matcher_spec.proofs.Bounds.{widened-to, at-most-within}
-use Rattle.engine_spec.specs.Limits.{farthestMs, windowMost, bandsMost}
+use Rattle.matcher_spec.specs.Limits.{farthestMs, windowMost, bandsMost, farthest}
 use Rattle.engine_spec.specs.Windows.{query, endpointOf}
-use Rattle.engine_spec.specs.Refusals.{numberOf, refuses, unless, near, every, indexFits, validWindow, validEnergy, Submission, handedRefusal}
+use Rattle.engine_spec.specs.Refusals.{numberOf, refuses, unless, near, indexFits, validWindow, validEnergy, Submission, handedRefusal}
 use Rattle.engine_spec.specs.declared.types.Settings.{Settings}
 use Rattle.engine_spec.specs.declared.types.Answer.{Answer}
 use Rattle.engine_spec.specs.declared.types.Answer.the-variants as answer
@@ -50,10 +49,10 @@ unfolding every
 every-at p l i h k = all-at (λ (j : ℕ). p (getD l j nan)) (length l) i h k
 
 -- ---- times within ±10 ^ 12, which is 244140625 * 2 ^ 12
-pub near-within : (x : Float) → T (near x) → Within (10 ^ 12) 0 x
+pub near-within : (x : Float) → T (near x) → Within (farthest) 0 x
 unfolding ofBits ofFields odd trailingZeros
 near-within x h =
-    widened-to 244140625 244140625 12 (10 ^ 12) 0 x (le-refl 244140625) tt
+    widened-to 244140625 244140625 12 (farthest) 0 x (le-refl 244140625) tt
     (at-most-within 244140625 12 x
     (between-at-most farthestMs x (record { from = and-l (le (neg farthestMs) x) (le x farthestMs) h; to = and-r (le (neg farthestMs) x) (le x farthestMs) h })))
 

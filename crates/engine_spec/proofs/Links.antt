@@ -15,7 +15,7 @@ use Rattle.numbers_spec.proofs.Sums.{sub-mono}
 use Rattle.matcher_spec.specs.Centring.{contextFrames}
 use Rattle.engine_spec.specs.Thresholds.{chainMs, chainRecent}
 use Rattle.engine_spec.specs.Windows.{Window, start, endpointOf, evidence, jumpsFrom, _after_}
-use Rattle.engine_spec.specs.Chain.{Answered, windowAt, shownAt, spectralAt, wholeAt, Passes, when, jumpAt, silent, interrupts, Unbroken, Latest, neighbouring, keeping, Chain}
+use Rattle.engine_spec.specs.Chain.{Answered, windowAt, shownAt, spectralAt, wholeAt, Passes, when, jumpAt, interrupting, interrupts, Unbroken, Latest, neighbouring, keeping, Chain}
 use Rattle.engine_spec.specs.declared.types.RecordedMs.{RecordedMs}
 use Rattle.engine_spec.proofs.Tests.{not-or-l, below-or}
 
@@ -148,7 +148,7 @@ module _ (hop : Float) (a : ℕ → Answered) where
     | inl b ↦
         let x = t .endpoint j (omega arith) in
         let y = t .endpoint (suc j) l in
-        let ahead = onward hop (endpointOf (windowAt hop a j)) (windowAt hop a (suc j)) (not-or-l (jumpAt hop a (suc j)) (silent (shownAt hop a (suc j) .state)) (u (suc j) b (le-refl (suc j)))) in
+        let ahead = onward hop (endpointOf (windowAt hop a j)) (windowAt hop a (suc j)) (not-or-l (jumpAt hop a (suc j)) (interrupting (shownAt hop a (suc j) .state)) (u (suc j) b (le-refl (suc j)))) in
         le-transitive (when hop a i .0) (when hop a j .0) (when hop a (suc j) .0) (later n f t i j (omega arith) (omega arith) (λ k x y. u k x (omega arith)))
         (evidence-mono hop (windowAt hop a j) (windowAt hop a (suc j)) f x y
         (not-lt→le (endpointOf (windowAt hop a (suc j)) .0) (endpointOf (windowAt hop a j) .0) (finite-no-nan _ y) (finite-no-nan _ x) ahead))

@@ -11,10 +11,10 @@ use lib.Count.{trailingZeros}
 use lib.Ieee.{Float, nan, inf, fin, binary64, up, down, unlike, le, lt, eq, neg, add, sub, mul, div, sum, ofBits, ofFields, odd, round, units, size, span, climb, isNan}
 use lib.Ieee.Fits.{down-pos}
 use lib.Ieee.Scale.{finite}
-use Rattle.numbers_spec.specs.Arithmetic.{_⊕_, _⊖_, _⊗_, _⊘_, zero⁺, one, two, absolute, atLeast}
+use Rattle.numbers_spec.specs.Arithmetic.{_⊕_, _⊖_, _⊗_, _⊘_, zero⁺, one, two, absolute, atLeast, magnitude}
 use Rattle.numbers_spec.specs.Exponential.{expOf}
 use Rattle.numbers_spec.proofs.Value.{finite-no-nan}
-use Rattle.numbers_spec.specs.Values.{Number, magnitude, AtMost, NotNegative, Between}
+use Rattle.numbers_spec.specs.Values.{Number, AtMost, NotNegative, Between}
 use Rattle.numbers_spec.proofs.Order.{P, N, le→below, le-transitive, le-self, le-total, lt→le, not-lt→le, neg-le, neg-finite, magnitude-neg, at-most-between, between-at-most, at-most-finite}
 use Rattle.numbers_spec.proofs.Rounding.{Is, Rounded, rounded-mono, zeros}
 use Rattle.numbers_spec.proofs.Sums.{sub-mono, sub-anti, add-at-most, sub-at-most}

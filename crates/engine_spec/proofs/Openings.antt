@@ -12,24 +12,24 @@ use lib.Ieee.{Float, nan, le, lt, eq, neg, ofBits}
 use lib.Ieee.Scale.{finite}
 use Rattle.numbers_spec.specs.Arithmetic.{zero⁺}
 use Rattle.numbers_spec.specs.Values.{Number}
-use Rattle.numbers_spec.specs.Rows.{allTo}
+use Rattle.numbers_spec.specs.Rows.{allTo, Every, F32, every}
 use Rattle.matcher_spec.specs.Timeline.{regular, onTime, validValues}
 use Rattle.matcher_spec.specs.declared.types.Candidate.{Candidate}
 use Rattle.matcher_spec.specs.Index.{Matcher, acceptsReference, matcherOf, filled, lentMatcher}
-use Rattle.matcher_spec.specs.Words.{Every, F32}
 use Rattle.matcher_spec.specs.SoundSearch.{GoodReference, SoundResult}
 use Rattle.matcher_spec.proofs.SoundSearch.{whole-sound, local-sound}
 use Rattle.matcher_spec.proofs.FilledIndex.{filled-index}
-use Rattle.engine_spec.specs.Limits.{framesMost, bandsMost}
-use Rattle.engine_spec.specs.Windows.{Soundtrack, Index, Window, indexed, matcherIn, query, endpointOf}
-use Rattle.engine_spec.specs.Refusals.{numberOf, refuses, near, nearOrNotFinite, every, validConfiguration, hopInRange, countsInRange, bothOrNeither, openingRefusal, validSettings, Submission, handedRefusal}
-use Rattle.engine_spec.specs.Opening.{freshEngine, withIndex, withoutIndex, acceptsFilm, openedSettings, opening, fills, matcherOfFilm, openedIndex}
+use Rattle.matcher_spec.specs.Limits.{framesMost, bandsMost}
+use Rattle.engine_spec.specs.Windows.{Index, Window, indexed, matcherIn, query, endpointOf}
+use Rattle.matcher_spec.specs.Features.{Features}
+use Rattle.engine_spec.specs.Refusals.{numberOf, refuses, near, nearOrNotFinite, validConfiguration, hopInRange, countsInRange, bothOrNeither, openingRefusal, validSettings, Submission, handedRefusal}
+use Rattle.engine_spec.specs.Opening.{freshEngine, withIndex, withoutIndex, acceptsFeatures, openedSettings, opening, fills, matcherOfReference, openedIndex}
 use Rattle.engine_spec.specs.Readiness.{readiness, isNone}
 use Rattle.engine_spec.specs.Locking.{Reached}
 use Rattle.engine_spec.specs.Publishing.{decide}
 use Rattle.engine_spec.specs.Submitting.{reachedBy, lockFrom, decisionOn}
 use Rattle.engine_spec.specs.Guarantee.{Begins, FilledWith, Handed}
-use Rattle.engine_spec.specs.Reached.{OpenedFilled}
+use Rattle.engine_spec.specs.Guaranteed.{OpenedFilled}
 use Rattle.engine_spec.specs.declared.types.Configuration.{Configuration}
 use Rattle.engine_spec.specs.declared.types.Settings.{Settings}
 use Rattle.engine_spec.specs.declared.types.Lock.{Lock}
@@ -73,52 +73,52 @@ best-halves : (b : Candidate) (l : List Candidate) → SoundResult (b ∷ l) →
 best-halves b l r = let best = r .modest 0 (omega arith) in (best .first-half .number, best .second-half .number)
 
 -- ---- the settings of an engine that was opened
-module _ (c : Configuration) (hop : Float) (film : Soundtrack) where
-  hop-is : openedSettings c hop film .«hop_ms» ≡ hop
-  hop-is = cond-elim (λ (s : Settings). s .«hop_ms» ≡ hop) (acceptsFilm hop film) (withIndex c hop film) (withoutIndex c hop) (λ a. refl) (λ a. refl)
+module _ (c : Configuration) (hop : Float) (reference : Features) where
+  hop-is : openedSettings c hop reference .«hop_ms» ≡ hop
+  hop-is = cond-elim (λ (s : Settings). s .«hop_ms» ≡ hop) (acceptsFeatures hop reference) (withIndex c hop reference) (withoutIndex c hop) (λ a. refl) (λ a. refl)
 
   -- With index, the reference was accepted,
-  accepted-film : T (indexed (openedSettings c hop film)) → T (acceptsFilm hop film)
-  accepted-film = cond-elim (λ (s : Settings). T (indexed s) → T (acceptsFilm hop film)) (acceptsFilm hop film) (withIndex c hop film) (withoutIndex c hop) (λ a h. a) (λ a h. absurd h)
+  accepted-reference : T (indexed (openedSettings c hop reference)) → T (acceptsFeatures hop reference)
+  accepted-reference = cond-elim (λ (s : Settings). T (indexed s) → T (acceptsFeatures hop reference)) (acceptsFeatures hop reference) (withIndex c hop reference) (withoutIndex c hop) (λ a h. a) (λ a h. absurd h)
 
   -- and the settings are the reference's.
-  indexed-settings : T (indexed (openedSettings c hop film)) → openedSettings c hop film ≡ withIndex c hop film
-  indexed-settings h = go (acceptsFilm hop film) (accepted-film h)
+  indexed-settings : T (indexed (openedSettings c hop reference)) → openedSettings c hop reference ≡ withIndex c hop reference
+  indexed-settings h = go (acceptsFeatures hop reference) (accepted-reference h)
     where
-      go : (b : Bool) → T b → cond b (withIndex c hop film) (withoutIndex c hop) ≡ withIndex c hop film
+      go : (b : Bool) → T b → cond b (withIndex c hop reference) (withoutIndex c hop) ≡ withIndex c hop reference
       go true h = refl
       go false h = absurd h
 
 -- ---- what an accepted reference is
-record Accepted (hop : Float) (film : Soundtrack) : Type 0 where
-  frames : 1 < length (film .times)
-  bands : 0 < film .bands
-  start : T (finite (getD (film .times) 0 nan))
+record Accepted (hop : Float) (reference : Features) : Type 0 where
+  frames : 1 < length (reference .times)
+  bands : 0 < reference .bands
+  start : T (finite (getD (reference .times) 0 nan))
 
-accepted : (hop : Float) (film : Soundtrack) → T (acceptsFilm hop film) → Accepted hop film
+accepted : (hop : Float) (reference : Features) → T (acceptsFeatures hop reference) → Accepted hop reference
 unfolding acceptsReference regular
-accepted hop film h =
-    let n = length (film .times) in
-    let timed = regular hop (film .times) in
-    let banded = ltb 0 (film .bands) in
-    let valued = validValues (film .values) in
-    let begun = finite hop && (lt zero⁺ hop && finite (getD (film .times) 0 nan)) in
-    let on-time = allTo (λ (i : ℕ). onTime hop (film .times) (suc i)) (n - 1) in
+accepted hop reference h =
+    let n = length (reference .times) in
+    let timed = regular hop (reference .times) in
+    let banded = ltb 0 (reference .bands) in
+    let valued = validValues (reference .values) in
+    let begun = finite hop && (lt zero⁺ hop && finite (getD (reference .times) 0 nan)) in
+    let on-time = allTo (λ (i : ℕ). onTime hop (reference .times) (suc i)) (n - 1) in
     let t = and-l timed (banded && valued) h in
     let start = and-l begun on-time (and-r (ltb 1 n) (begun && on-time) t) in
     record {
       frames = ltb→lt 1 n (and-l (ltb 1 n) (begun && on-time) t);
-      bands = ltb→lt 0 (film .bands) (and-l banded valued (and-r timed (banded && valued) h));
-      start = and-r (lt zero⁺ hop) (finite (getD (film .times) 0 nan)) (and-r (finite hop) (lt zero⁺ hop && finite (getD (film .times) 0 nan)) start);
+      bands = ltb→lt 0 (reference .bands) (and-l banded valued (and-r timed (banded && valued) h));
+      start = and-r (lt zero⁺ hop) (finite (getD (reference .times) 0 nan)) (and-r (finite hop) (lt zero⁺ hop && finite (getD (reference .times) 0 nan)) start);
     }
 
 -- ---- an answered opening, whatever its values are: each test of `openingRefusal` passed
-record Tested (c : Configuration) (hop : Float) (film : Soundtrack) : Type 0 where
+record Tested (c : Configuration) (hop : Float) (reference : Features) : Type 0 where
   configuration : T (validConfiguration c)
   hop-in-range : T (hopInRange hop)
-  counts : T (countsInRange (length (film .times)) (film .bands))
-  full : T (eqb (length (film .values)) (film .bands * length (film .times)))
-  times : T (every nearOrNotFinite (film .times))
+  counts : T (countsInRange (length (reference .times)) (reference .bands))
+  full : T (eqb (length (reference .values)) (reference .bands * length (reference .times)))
+  times : T (every nearOrNotFinite (reference .times))
 
 valid-settings : (s : Settings) → T (validConfiguration (s .configuration)) → T (hopInRange (s .«hop_ms»)) → T (countsInRange (s .«reference_frames») (s .«reference_bands»))
     → T (bothOrNeither (s .«reference_frames») (s .«reference_bands»)) → T (near (s .«reference_start_ms» .0)) → T (validSettings s)
@@ -129,135 +129,135 @@ valid-settings s p q r b n =
     (and-i (countsInRange (s .«reference_frames») (s .«reference_bands»)) _ r
     (and-i (bothOrNeither (s .«reference_frames») (s .«reference_bands»)) _ b n)))
 
-module _ (c : Configuration) (hop : Float) (film : Soundtrack) (x : Index) (o : opening c hop film x .answer ≡ answer.Opened) where
-  not-refused : refuses (openingRefusal c hop film x) ≡ false
+module _ (c : Configuration) (hop : Float) (reference : Features) (x : Index) (o : opening c hop reference x .answer ≡ answer.Opened) where
+  not-refused : refuses (openingRefusal c hop reference x) ≡ false
   unfolding opening numberOf
   not-refused = ap refuses o
 
-  tested : Tested c hop film
+  tested : Tested c hop reference
   unfolding openingRefusal numberOf
   tested =
       let p₁ = passed (validConfiguration c) answer.InvalidConfiguration _ tt not-refused in
       let p₂ = passed (hopInRange hop) answer.HopOutOfRange _ tt (p₁ .on) in
-      let p₃ = passed (countsInRange (length (film .times)) (film .bands)) answer.ReferenceTooLarge _ tt (p₂ .on) in
-      let p₄ = passed (eqb (length (film .values)) (film .bands * length (film .times))) answer.ReferenceMiscounted _ tt (p₃ .on) in
-      let p₅ = passed (every nearOrNotFinite (film .times)) answer.ReferenceTimeTooFar _ tt (p₄ .on) in
+      let p₃ = passed (countsInRange (length (reference .times)) (reference .bands)) answer.ReferenceTooLarge _ tt (p₂ .on) in
+      let p₄ = passed (eqb (length (reference .values)) (reference .bands * length (reference .times))) answer.ReferenceMiscounted _ tt (p₃ .on) in
+      let p₅ = passed (every nearOrNotFinite (reference .times)) answer.ReferenceTimeTooFar _ tt (p₄ .on) in
       record { configuration = p₁ .here; hop-in-range = p₂ .here; counts = p₃ .here; full = p₄ .here; times = p₅ .here }
 
   -- A finite start lies within ±10 ^ 12.
-  start-near : Accepted hop film → T (near (getD (film .times) 0 nan))
-  start-near a = elim (or-split (not (finite t)) (near t) (every-at nearOrNotFinite (film .times) 0 (tested .times) (let k = a .frames in omega arith))) [
+  start-near : Accepted hop reference → T (near (getD (reference .times) 0 nan))
+  start-near a = elim (or-split (not (finite t)) (near t) (every-at nearOrNotFinite (reference .times) 0 (tested .times) (let k = a .frames in omega arith))) [
     | inl n ↦ absurd (T-not (finite t) n (a .start))
     | inr n ↦ n
   ]
     where
       t : Float
-      t = getD (film .times) 0 nan
+      t = getD (reference .times) 0 nan
 
-  valid-opened : T (validSettings (openedSettings c hop film))
-  valid-opened = cond-elim (λ (s : Settings). T (validSettings s)) (acceptsFilm hop film) (withIndex c hop film) (withoutIndex c hop)
-      (λ a. let f = accepted hop film a in
-      valid-settings (withIndex c hop film) (tested .configuration) (tested .hop-in-range) (tested .counts) (both (length (film .times)) (film .bands) (let k = f .frames in omega arith) (f .bands)) (start-near f))
+  valid-opened : T (validSettings (openedSettings c hop reference))
+  valid-opened = cond-elim (λ (s : Settings). T (validSettings s)) (acceptsFeatures hop reference) (withIndex c hop reference) (withoutIndex c hop)
+      (λ a. let f = accepted hop reference a in
+      valid-settings (withIndex c hop reference) (tested .configuration) (tested .hop-in-range) (tested .counts) (both (length (reference .times)) (reference .bands) (let k = f .frames in omega arith) (f .bands)) (start-near f))
       (λ a. valid-settings (withoutIndex c hop) (tested .configuration) (tested .hop-in-range) tt tt (unfold le lt eq neg ofBits in tt))
     where
       both : (frames bands : ℕ) → 0 < frames → 0 < bands → T (bothOrNeither frames bands)
       both frames bands p q = or-r (eqb frames 0 && eqb bands 0) (ltb 0 frames && ltb 0 bands) (and-i (ltb 0 frames) (ltb 0 bands) (lt→ltb 0 frames p) (lt→ltb 0 bands q))
 
   -- ---- an index that is there
-  module _ (there : T (indexed (openedSettings c hop film))) where
-    matcher-held : (y : Index) → FilledWith (matcherOfFilm hop film) y → matcherIn (openedSettings c hop film) y ≡ matcherOfFilm hop film
+  module _ (there : T (indexed (openedSettings c hop reference))) where
+    matcher-held : (y : Index) → FilledWith (matcherOfReference hop reference) y → matcherIn (openedSettings c hop reference) y ≡ matcherOfReference hop reference
     unfolding matcherOf
     matcher-held y f =
-        let m = matcherOfFilm hop film in
-        ap (λ (s : Settings). matcherIn s y) (indexed-settings c hop film there)
+        let m = matcherOfReference hop reference in
+        ap (λ (s : Settings). matcherIn s y) (indexed-settings c hop reference there)
         ∙ (λ k. lentMatcher (m .reference)
         (refilled (m .fine .values) (y .fine) (f .fine) k)
         (refilled (m .coarse .values) (y .coarse) (f .coarse) k)
-        (refilled (m .fine .squares) (y .fineSquares) (f .fineSquares) k)
-        (refilled (m .coarse .squares) (y .coarseSquares) (f .coarseSquares) k))
-        ∙ filled-index hop (film .bands) (film .times) (film .values) (eqb→eq (length (film .values)) (film .bands * length (film .times)) (tested .full)) .is-held (y .fine) (y .coarse) (y .fineSquares) (y .coarseSquares)
+        (refilled (m .fine .energy) (y .fineEnergy) (f .fineEnergy) k)
+        (refilled (m .coarse .energy) (y .coarseEnergy) (f .coarseEnergy) k))
+        ∙ filled-index hop (reference .bands) (reference .times) (reference .values) (eqb→eq (length (reference .values)) (reference .bands * length (reference .times)) (tested .full)) .is-held (y .fine) (y .coarse) (y .fineEnergy) (y .coarseEnergy)
 
-    filling : T (fills c hop film x)
+    filling : T (fills c hop reference x)
     unfolding fills
-    filling = and-i (not (refuses (openingRefusal c hop film x))) (acceptsFilm hop film) (subst (λ (b : Bool). T (not b)) (sym not-refused) tt) (accepted-film c hop film there)
+    filling = and-i (not (refuses (openingRefusal c hop reference x))) (acceptsFeatures hop reference) (subst (λ (b : Bool). T (not b)) (sym not-refused) tt) (accepted-reference c hop reference there)
 
-    opened-index : FilledWith (matcherOfFilm hop film) (openedIndex c hop film x)
+    opened-index : FilledWith (matcherOfReference hop reference) (openedIndex c hop reference x)
     unfolding openedIndex
     opened-index =
-        let m = matcherOfFilm hop film in
+        let m = matcherOfReference hop reference in
         let yes = filling in
         record {
-          fine = begins-filled (fills c hop film x) (m .fine .values) (x .fine) yes;
-          coarse = begins-filled (fills c hop film x) (m .coarse .values) (x .coarse) yes;
-          fineSquares = begins-filled (fills c hop film x) (m .fine .squares) (x .fineSquares) yes;
-          coarseSquares = begins-filled (fills c hop film x) (m .coarse .squares) (x .coarseSquares) yes;
+          fine = begins-filled (fills c hop reference x) (m .fine .values) (x .fine) yes;
+          coarse = begins-filled (fills c hop reference x) (m .coarse .values) (x .coarse) yes;
+          fineEnergy = begins-filled (fills c hop reference x) (m .fine .energy) (x .fineEnergy) yes;
+          coarseEnergy = begins-filled (fills c hop reference x) (m .coarse .energy) (x .coarseEnergy) yes;
         }
 
-    good-reference : Every F32 (film .values) → GoodReference hop (film .bands) (film .times) (film .values)
+    good-reference : Every F32 (reference .values) → GoodReference hop (reference .bands) (reference .times) (reference .values)
     good-reference h =
-        let frames = leb (length (film .times)) framesMost in
-        let bands = leb (film .bands) bandsMost in
-        let a = accepted-film c hop film there in
+        let frames = leb (length (reference .times)) framesMost in
+        let bands = leb (reference .bands) bandsMost in
+        let a = accepted-reference c hop reference there in
         record {
           hop-between = hop-between hop (T-is (hopInRange hop) (tested .hop-in-range));
-          few = leb→le (film .bands) bandsMost (and-r frames bands (tested .counts));
-          short = leb→le (length (film .times)) framesMost (and-l frames bands (tested .counts));
-          full = eqb→eq (length (film .values)) (film .bands * length (film .times)) (tested .full);
+          few = leb→le (reference .bands) bandsMost (and-r frames bands (tested .counts));
+          short = leb→le (length (reference .times)) framesMost (and-l frames bands (tested .counts));
+          full = eqb→eq (length (reference .values)) (reference .bands * length (reference .times)) (tested .full);
           held = h;
           accepted = T-is _ a;
-          start = near-within (getD (film .times) 0 nan) (start-near (accepted hop film a));
+          start = near-within (getD (reference .times) 0 nan) (start-near (accepted hop reference a));
         }
 
 pub opened-filled : OpenedFilled
-opened-filled c hop film x o there = opened-index c hop film x o there
+opened-filled c hop reference x o there = opened-index c hop reference x o there
 
 -- ---- an answered opening of f32 values
-pub record Opening (c : Configuration) (hop : Float) (film : Soundtrack) (x : Index) : Type 0 where
-  pub held : Every F32 (film .values)
-  pub opened : opening c hop film x .answer ≡ answer.Opened
+pub record Opening (c : Configuration) (hop : Float) (reference : Features) (x : Index) : Type 0 where
+  pub held : Every F32 (reference .values)
+  pub opened : opening c hop reference x .answer ≡ answer.Opened
 
-module _ {c : Configuration} {hop : Float} {film : Soundtrack} {x : Index} (o : Opening c hop film x) where
-  pub engine-is : opening c hop film x .engine ≡ freshEngine (openedSettings c hop film)
+module _ {c : Configuration} {hop : Float} {reference : Features} {x : Index} (o : Opening c hop reference x) where
+  pub engine-is : opening c hop reference x .engine ≡ freshEngine (openedSettings c hop reference)
   unfolding opening
-  engine-is = rw (not-refused c hop film x (o .opened)) refl
+  engine-is = rw (not-refused c hop reference x (o .opened)) refl
 
-  pub settings-valid : validSettings (openedSettings c hop film) ≡ true
-  settings-valid = T-is (validSettings (openedSettings c hop film)) (valid-opened c hop film x (o .opened))
+  pub settings-valid : validSettings (openedSettings c hop reference) ≡ true
+  settings-valid = T-is (validSettings (openedSettings c hop reference)) (valid-opened c hop reference x (o .opened))
 
-  hop-of-settings : hopInRange (openedSettings c hop film .«hop_ms») ≡ true
-  hop-of-settings = ap hopInRange (hop-is c hop film) ∙ T-is (hopInRange hop) (tested c hop film x (o .opened) .hop-in-range)
+  hop-of-settings : hopInRange (openedSettings c hop reference .«hop_ms») ≡ true
+  hop-of-settings = ap hopInRange (hop-is c hop reference) ∙ T-is (hopInRange hop) (tested c hop reference x (o .opened) .hop-in-range)
 
-  pub trim-finite : T (finite (trim (openedSettings c hop film)))
-  trim-finite = trimmed-finite (openedSettings c hop film .«hop_ms») hop-of-settings
+  pub trim-finite : T (finite (trim (openedSettings c hop reference)))
+  trim-finite = trimmed-finite (openedSettings c hop reference .«hop_ms») hop-of-settings
 
   -- ---- a submission that is not refused, with the index that opening filled
-  module _ (i : Submission) (h : Handed (openedSettings c hop film) (matcherOfFilm hop film) i) (e : refuses (handedRefusal (openedSettings c hop film) i) ≡ false) where
-    pub sound : Sound (openedSettings c hop film) (matcherOfFilm hop film) (i .window)
+  module _ (i : Submission) (h : Handed (openedSettings c hop reference) (matcherOfReference hop reference) i) (e : refuses (handedRefusal (openedSettings c hop reference) i) ≡ false) where
+    pub sound : Sound (openedSettings c hop reference) (matcherOfReference hop reference) (i .window)
     sound =
-        let good = good-window (openedSettings c hop film) i e (h .held) in
+        let good = good-window (openedSettings c hop reference) i e (h .held) in
         record {
-          whole = λ there. whole-sound hop (film .bands) (film .times) (film .values) (query (i .window)) (good-reference c hop film x (o .opened) there (o .held)) good;
-          near = λ there. local-sound hop (film .bands) (film .times) (film .values) (query (i .window)) (good-reference c hop film x (o .opened) there (o .held)) good;
+          whole = λ there. whole-sound hop (reference .bands) (reference .times) (reference .values) (query (i .window)) (good-reference c hop reference x (o .opened) there (o .held)) good;
+          near = λ there. local-sound hop (reference .bands) (reference .times) (reference .values) (query (i .window)) (good-reference c hop reference x (o .opened) there (o .held)) good;
         }
 
-    pub fair : Fair (openedSettings c hop film) (matcherOfFilm hop film) (i .window)
+    pub fair : Fair (openedSettings c hop reference) (matcherOfReference hop reference) (i .window)
     fair =
-        let near-end = subst T (sym (near-endpoint (openedSettings c hop film) i e)) tt in
+        let near-end = subst T (sym (near-endpoint (openedSettings c hop reference) i e)) tt in
         record {
           endpoint = near-within (endpointOf (i .window) .0) near-end .finite-is;
-          evidence = evidence-bound (openedSettings c hop film .«hop_ms») (i .window) hop-of-settings (near-endpoint (openedSettings c hop film) i e) .0;
+          evidence = evidence-bound (openedSettings c hop reference .«hop_ms») (i .window) hop-of-settings (near-endpoint (openedSettings c hop reference) i e) .0;
           halves = λ there b l f. best-halves b l (subst SoundResult (sym f) (sound .whole there));
         }
 
     -- The lent index holds the reference's matcher.
-    matcher-is : T (indexed (openedSettings c hop film)) → matcherIn (openedSettings c hop film) (i .index) ≡ matcherOfFilm hop film
-    matcher-is there = matcher-held c hop film x (o .opened) there (i .index) (h .index there (unrefused (openedSettings c hop film) i e .index))
+    matcher-is : T (indexed (openedSettings c hop reference)) → matcherIn (openedSettings c hop reference) (i .index) ≡ matcherOfReference hop reference
+    matcher-is there = matcher-held c hop reference x (o .opened) there (i .index) (h .index there (unrefused (openedSettings c hop reference) i e .index))
 
-  pub decision-is : (e : Engine) (i : Submission) → e .settings ≡ openedSettings c hop film → Handed (openedSettings c hop film) (matcherOfFilm hop film) i
-      → refuses (handedRefusal (openedSettings c hop film) i) ≡ false
-      → decisionOn e i ≡ decide (openedSettings c hop film) (matcherOfFilm hop film) (i .window) (reachedBy (e .milestones)) (lockFrom e (i .window))
+  pub decision-is : (e : Engine) (i : Submission) → e .settings ≡ openedSettings c hop reference → Handed (openedSettings c hop reference) (matcherOfReference hop reference) i
+      → refuses (handedRefusal (openedSettings c hop reference) i) ≡ false
+      → decisionOn e i ≡ decide (openedSettings c hop reference) (matcherOfReference hop reference) (i .window) (reachedBy (e .milestones)) (lockFrom e (i .window))
   unfolding decisionOn
   decision-is e i same h r =
       let l = lockFrom e (i .window) in
       ap (λ (s : Settings). decide s (matcherIn s (i .index)) (i .window) (reachedBy (e .milestones)) l) same
-      ∙ same-decision (openedSettings c hop film) (matcherIn (openedSettings c hop film) (i .index)) (matcherOfFilm hop film) (i .window) (reachedBy (e .milestones)) l (matcher-is i h r)
+      ∙ same-decision (openedSettings c hop reference) (matcherIn (openedSettings c hop reference) (i .index)) (matcherOfReference hop reference) (i .window) (reachedBy (e .milestones)) l (matcher-is i h r)

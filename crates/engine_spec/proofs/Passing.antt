@@ -4,13 +4,13 @@ use mathlib.Core.List.{List, [], _∷_}
 use mathlib.Core.Path.{_≡_, refl}
 use lib.Dec.{T}
 use lib.Ieee.{Float, isNan, lt, le, ofBits}
-use Rattle.numbers_spec.specs.Arithmetic.{zero⁺}
+use Rattle.numbers_spec.specs.Arithmetic.{zero⁺, least}
 use Rattle.numbers_spec.specs.Values.{Number}
 use Rattle.numbers_spec.proofs.Order.{le-transitive, lt→le, not-lt→le}
 use Rattle.matcher_spec.specs.Candidates.{marginOf}
 use Rattle.matcher_spec.specs.declared.types.Candidate.{Candidate}
 use Rattle.engine_spec.specs.Thresholds.{passingCorrelation, passingMargin, passingHalf}
-use Rattle.engine_spec.specs.Locking.{least, passing}
+use Rattle.engine_spec.specs.Locking.{passing}
 use Rattle.engine_spec.specs.Chain.{passes}
 use Rattle.engine_spec.specs.declared.types.Snapshot.{Snapshot}
 use Rattle.engine_spec.proofs.Tests.{cond-elim, and-l, and-r, and-i}

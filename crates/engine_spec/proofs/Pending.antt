@@ -21,7 +21,7 @@ use Rattle.engine_spec.specs.Thresholds.{chainMs, chainRecent}
 use Rattle.engine_spec.specs.Windows.{Window, query, _after_}
 use Rattle.engine_spec.specs.Tracking.{samePlace}
 use Rattle.engine_spec.specs.Locking.{Reached, Searched, passing, current, firstEvidence, holds, heldOrDropped, confirms}
-use Rattle.engine_spec.specs.Chain.{Answered, windowAt, shownAt, wholeAt, Passes, when, jumpAt, silent, bestOffset, interrupts, Latest, neighbouring, keeping, EndsChain}
+use Rattle.engine_spec.specs.Chain.{Answered, windowAt, shownAt, wholeAt, Passes, when, jumpAt, interrupting, bestOffset, interrupts, Latest, neighbouring, keeping, EndsChain}
 use Rattle.engine_spec.specs.declared.types.RecordedMs.{RecordedMs}
 use Rattle.engine_spec.specs.declared.types.Maybe.the-variants as maybe
 use Rattle.engine_spec.specs.declared.types.Hypothesis.{Hypothesis}
@@ -57,11 +57,11 @@ module _ (hop : Float) (a : ℕ → Answered) where
     none-open : ((i : ℕ) → i < n → Open hop a i (suc n) → ⊥) → Ready n hypothesis.Absent
     going : {o : Float} {f l : RecordedMs} {c : Float} → T (not (jumpAt hop a n)) → Running n o f l → Ready n (hypothesis.Held o f l c)
 
-  -- ---- the answer n, which is not silent
-  module _ (n : ℕ) (loud : T (not (silent (shownAt hop a n .state)))) where
+  -- ---- the answer n, which does not interrupt
+  module _ (n : ℕ) (loud : T (not (interrupting (shownAt hop a n .state)))) where
     -- what a chain open before it and going on asks of it
     going-on : T (not (jumpAt hop a n)) → T (not (interrupts hop a n))
-    going-on j = not-or (jumpAt hop a n) (silent (shownAt hop a n .state)) j loud
+    going-on j = not-or (jumpAt hop a n) (interrupting (shownAt hop a n .state)) j loud
 
     -- an answer that doesn't pass: pending stays where a whole search keeps it
     stays-idle : ((i : ℕ) → i < n → Open hop a i (suc n) → ⊥) → (Passes hop a n → ⊥) → Pending (suc n) hypothesis.Absent

@@ -9,13 +9,14 @@ use lib.Dec.{T}
 use lib.ListN.{length, getD}
 use lib.Ieee.{Float}
 use Rattle.matcher_spec.specs.Index.{Matcher}
-use Rattle.engine_spec.specs.Windows.{Soundtrack, Index, Window, rereads}
+use Rattle.engine_spec.specs.Windows.{Index, Window, rereads}
+use Rattle.matcher_spec.specs.Features.{Features}
 use Rattle.engine_spec.specs.Refusals.{Submission, refuses, handedRefusal, submissionRefusal}
-use Rattle.engine_spec.specs.Opening.{freshEngine, openedSettings, matcherOfFilm}
+use Rattle.engine_spec.specs.Opening.{freshEngine, openedSettings, matcherOfReference}
 use Rattle.engine_spec.specs.Submitting.{reread, computedFrom}
 use Rattle.engine_spec.specs.Chain.{Answered}
 use Rattle.engine_spec.specs.Guarantee.{answersTo, engineAfter, isComputed, remaining, AllHanded, unanswered, Trusted, Promised, Guarantee}
-use Rattle.engine_spec.specs.Reached.{unreachable, NeverSeven, NeverConfirmed}
+use Rattle.engine_spec.specs.Guaranteed.{unreachable, NeverSeven, NeverConfirmed}
 use Rattle.engine_spec.proofs.Standing.{Inv, start, Next, next}
 use Rattle.engine_spec.proofs.Handed.{near-endpoint, clock-finite}
 use Rattle.engine_spec.proofs.Openings.{Opening, engine-is, settings-valid, trim-finite, fair, sound, decision-is}
@@ -29,16 +30,16 @@ use Rattle.engine_spec.specs.declared.types.Endpoint.{Endpoint}
 use Rattle.engine_spec.specs.declared.types.Endpoint.the-variants as endpoint
 
 -- ---- an opening that is answered gives all that the list's proof rests on
-grounds : (c : Configuration) (hop : Float) (film : Soundtrack) (x : Index) → Opening c hop film x → Grounds (openedSettings c hop film) (matcherOfFilm hop film)
-grounds c hop film x o =
-    let s = openedSettings c hop film in
+grounds : (c : Configuration) (hop : Float) (reference : Features) (x : Index) → Opening c hop reference x → Grounds (openedSettings c hop reference) (matcherOfReference hop reference)
+grounds c hop reference x o =
+    let s = openedSettings c hop reference in
     record {
       trimmed = trim-finite o;
       fresh = safe-fresh s (settings-valid o);
       clocked = clock-finite s;
       fair = fair o;
       decision = decision-is o;
-      safe = λ e i good h q. safe-next s (matcherOfFilm hop film) e i (good .safe) (good .settings) (sound o i h q) (near-endpoint s i q) (clock-finite s i q);
+      safe = λ e i good h q. safe-next s (matcherOfReference hop reference) e i (good .safe) (good .settings) (sound o i h q) (near-endpoint s i q) (clock-finite s i q);
     }
 
 -- ---- along the computed answers
@@ -96,10 +97,10 @@ promised s m g l h =
     }
 
 pub guarantee : Guarantee
-guarantee c hop film x held opened l h =
-    let o : Opening c hop film x = record { held = held; opened = opened } in
-    subst (λ (e : Engine). Promised e (matcherOfFilm hop film) l) (sym (engine-is o))
-    (promised (openedSettings c hop film) (matcherOfFilm hop film) (grounds c hop film x o) l h)
+guarantee c hop reference x held opened l h =
+    let o : Opening c hop reference x = record { held = held; opened = opened } in
+    subst (λ (e : Engine). Promised e (matcherOfReference hop reference) l) (sym (engine-is o))
+    (promised (openedSettings c hop reference) (matcherOfReference hop reference) (grounds c hop reference x o) l h)
 
 -- ---- no state reached is refused with 7
 seven : (s : Settings) (m : Matcher) → Grounds s m → (l : List Submission) → AllHanded s m l → (i : Submission)
@@ -108,10 +109,10 @@ unfolding freshEngine
 seven s m g l h i = refusal-is s (engineAfter (freshEngine s) l) i (good-after s m g (freshEngine s) l (good-fresh s m g) h)
 
 pub never-seven : NeverSeven
-never-seven c hop film x held opened l h =
-    let o : Opening c hop film x = record { held = held; opened = opened } in
+never-seven c hop reference x held opened l h =
+    let o : Opening c hop reference x = record { held = held; opened = opened } in
     subst (λ (e : Engine). (i : Submission) → submissionRefusal (engineAfter e l) i ≡ handedRefusal (e .settings) i) (sym (engine-is o))
-    (seven (openedSettings c hop film) (matcherOfFilm hop film) (grounds c hop film x o) l h)
+    (seven (openedSettings c hop reference) (matcherOfReference hop reference) (grounds c hop reference x o) l h)
 
 -- ---- no answer is Confirmed, Ready or Drifting
 -- Each of these shows another state;
@@ -155,7 +156,7 @@ never-unusual s m g l h =
     usual-along s m e l (answersTo e l) st (λ t. absurd t) (λ k u. relied s m g (remaining (answersTo e l)) (trace s m e l (answersTo e l) st) k u .usual)
 
 pub never-confirmed : NeverConfirmed
-never-confirmed c hop film x held opened l h =
-    let o : Opening c hop film x = record { held = held; opened = opened } in
+never-confirmed c hop reference x held opened l h =
+    let o : Opening c hop reference x = record { held = held; opened = opened } in
     subst (λ (e : Engine). UsualUnrefused (answersTo e l)) (sym (engine-is o))
-    (never-unusual (openedSettings c hop film) (matcherOfFilm hop film) (grounds c hop film x o) l h)
+    (never-unusual (openedSettings c hop reference) (matcherOfReference hop reference) (grounds c hop reference x o) l h)

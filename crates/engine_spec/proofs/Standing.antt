@@ -21,9 +21,9 @@ use Rattle.engine_spec.specs.Readiness.{readiness, isNone, averageEnergy
 use Rattle.engine_spec.specs.Locking.{Reached, Searched, searched}
 use Rattle.engine_spec.specs.Publishing.{Decision, ready, unready, decide, publish}
 use Rattle.engine_spec.specs.Submitting.{isThere, reachedBy, stamp, lockFrom, computedFrom}
-use Rattle.engine_spec.specs.Chain.{Answered, windowAt, shownAt, wholeAt, Passes, jumpAt, silent, EndsChain}
+use Rattle.engine_spec.specs.Chain.{Answered, windowAt, shownAt, wholeAt, Passes, jumpAt, interrupting, EndsChain}
 use Rattle.engine_spec.specs.Guarantee.{Shows, Trusted}
-use Rattle.engine_spec.specs.Reached.{unreachable}
+use Rattle.engine_spec.specs.Guaranteed.{unreachable}
 use Rattle.engine_spec.specs.declared.types.RecordedMs.{RecordedMs}
 use Rattle.engine_spec.specs.declared.types.ClockMs.{ClockMs}
 use Rattle.engine_spec.specs.declared.types.Settings.{Settings}
@@ -88,15 +88,15 @@ shown-milestones : (s : Settings) (w : Window) (d : Decision) (ms : Milestones) 
 unfolding publish
 shown-milestones s w d ms = refl
 
--- a silent answer interrupts, and is not Locked
+-- an interrupting answer breaks a chain, and is not Locked
 broken : (j q : Bool) → T q → T (not (j || q)) → ⊥
 broken true q s t = t
 broken false true s t = t
 broken false false s t = s
 
-silent-not-locked : (x : State) → T (silent x) → x ≡ state.Locked → ⊥
-unfolding silent
-silent-not-locked x q e = subst (λ (y : State). T (silent y)) e q
+interrupting-not-locked : (x : State) → T (interrupting x) → x ≡ state.Locked → ⊥
+unfolding interrupting
+interrupting-not-locked x q e = subst (λ (y : State). T (interrupting y)) e q
 
 module _ (s : Settings) (m : Matcher) (a : ℕ → Answered) where
   -- for short
@@ -150,8 +150,8 @@ module _ (s : Settings) (m : Matcher) (a : ℕ → Answered) where
     usual : (T (isHeld (d .lock .accepted)) → T (d .reached .final)) → unreachable (shownAt hop a n .state) ≡ false
 
   -- the window could not be searched: an interruption
-  silent-made : (n : ℕ) (k : Reached) (l : Lock) (r : WithholdReason) (ms : Milestones) → T (not (isNone r)) → shownAt hop a n ≡ publish s (w n) (unready s k l r) ms → Made n k (unready s k l r)
-  silent-made n k l r ms h v =
+  interrupting-made : (n : ℕ) (k : Reached) (l : Lock) (r : WithholdReason) (ms : Milestones) → T (not (isNone r)) → shownAt hop a n ≡ publish s (w n) (unready s k l r) ms → Made n k (unready s k l r)
+  interrupting-made n k l r ms h v =
       let q : Silence (shownAt hop a n) = subst (λ (x : Snapshot). Silence x) (sym v) (silenced s (w n) k l r ms h) in
       let np : Passes hop a n → ⊥ = λ t. subst (λ (b : Bool). T b) (passes-is (shownAt hop a n) false [] (q .shown)) t in
       record {
@@ -160,11 +160,11 @@ module _ (s : Settings) (m : Matcher) (a : ℕ → Answered) where
         ends = λ t. absurd t;
         lock-if = λ c. np (c .1 .last);
         pending = idle (λ i o. elim (below-or i n (o .order)) [
-          | inl b ↦ broken (jumpAt hop a n) (silent (shownAt hop a n .state)) (q .quiet) (o .unbroken n b (le-refl (suc n)))
+          | inl b ↦ broken (jumpAt hop a n) (interrupting (shownAt hop a n .state)) (q .quiet) (o .unbroken n b (le-refl (suc n)))
           | inr e ↦ np (subst (λ (k : ℕ). Passes hop a k) e (o .first))
         ]);
         accepted = no-track;
-        locked = λ e. absurd (silent-not-locked (shownAt hop a n .state) (q .quiet) e);
+        locked = λ e. absurd (interrupting-not-locked (shownAt hop a n .state) (q .quiet) e);
         searched = λ t. absurd (subst (λ (b : Bool). T b) (q .shown .whole) t);
         usual = λ _. q .usual;
       }
@@ -205,7 +205,7 @@ module _ (s : Settings) (m : Matcher) (a : ℕ → Answered) where
       let r = readiness s (k .confirmed) (w n) in
       cond-elim (λ (d : Decision). shownAt hop a n ≡ publish s (w n) d ms → Made n k d) (isNone r) (ready hop (w n) (searched m hop (w n) k l)) (unready s k l r)
       (λ t v. let x = ready-window s (k .confirmed) (w n) t in ready-made n k l ms f (fair .halves (x .0)) tm (anew n (x .1) nr) rd tr v)
-      (λ t v. silent-made n k l r ms t v)
+      (λ t v. interrupting-made n k l r ms t v)
 
   -- ---- what the answer before left, a jump taken account of
   jump-is : (n : ℕ) (e : Engine) → Inv n e → jumps (e .settings) (e .last .«endpoint_ms») (w n) ≡ jumpAt hop a n
@@ -217,7 +217,7 @@ module _ (s : Settings) (m : Matcher) (a : ℕ → Answered) where
   pending-ready n p j (running r) = going j r
 
   jumped-ready : (n : ℕ) → T (jumpAt hop a n) → Ready hop a n hypothesis.Absent
-  jumped-ready n j = none-open (λ i l o. T-not (jumpAt hop a n) (not-or-l (jumpAt hop a n) (silent (shownAt hop a n .state)) (o .unbroken n l (le-refl (suc n)))) j)
+  jumped-ready n j = none-open (λ i l o. T-not (jumpAt hop a n) (not-or-l (jumpAt hop a n) (interrupting (shownAt hop a n .state)) (o .unbroken n l (le-refl (suc n)))) j)
 
   accepted-tracked : (n : ℕ) (p : Hypothesis) → T (not (jumpAt hop a n)) → Accepted hop a n p → Tracked hop a n p
   accepted-tracked n p j no-track = no-more

@@ -23,7 +23,7 @@ use Rattle.engine_spec.specs.declared.types.Lock.{Lock}
 use Rattle.engine_spec.specs.declared.types.Milestones.{Milestones}
 use Rattle.engine_spec.specs.declared.types.Snapshot.{Snapshot}
 use Rattle.engine_spec.specs.declared.types.Engine.{Engine}
-use Rattle.engine_spec.specs.declared.types.Submitted.{Submitted}
+use Rattle.engine_spec.specs.declared.types.SubmitResult.{SubmitResult}
 use Rattle.engine_spec.specs.declared.types.Endpoint.{Endpoint}
 use Rattle.engine_spec.specs.declared.types.Milestone.{Milestone}
 use Rattle.engine_spec.specs.declared.types.Milestone.the-variants as milestone
@@ -104,12 +104,12 @@ pub alike-self : (e : Engine) → Alike e e
 alike-self e = record { lock = refl; endpoint = refl; reached = refl }
 
 -- what is new is computed
-submit-new : (s : Settings) (m : Matcher) (e : Engine) (i : Submission) (x : Submitted) → New s m e i → Kind s m e i x → x ≡ computedBy s m e i
+submit-new : (s : Settings) (m : Matcher) (e : Engine) (i : Submission) (x : SubmitResult) → New s m e i → Kind s m e i x → x ≡ computedBy s m e i
 submit-new s m e i x n (refusal q) = clash (sym q ∙ n .answered)
 submit-new s m e i x n (again q p) = clash (sym p ∙ n .anew)
 submit-new s m e i x n (computed k) = refl
 
-abbrev bareOf : Submitted → Bare
+abbrev bareOf : SubmitResult → Bare
 bareOf x = record { answer = x .answer; snapshot = withoutReadings (x .snapshot) }
 
 -- A submission that is computed in the one, under another clock in the other.
@@ -151,7 +151,7 @@ module _ (s : Settings) (m : Matcher) (g : Grounds s m) (e f : Engine) (good : G
 
   -- and the next state is reached, and alike again.
   good-alike : Good s (computedFrom f (timed i c) (decisionBy s m e i) .engine)
-  good-alike = subst (λ (x : Submitted). Good s (x .engine)) submit-alike (good-next s m g f (timed i c) (submit f (timed i c)) good' kind-alike)
+  good-alike = subst (λ (x : SubmitResult). Good s (x .engine)) submit-alike (good-next s m g f (timed i c) (submit f (timed i c)) good' kind-alike)
 
   next-alike : (d : Decision) → Alike (computedFrom e i d .engine) (computedFrom f (timed i c) d .engine)
   unfolding computedFrom
@@ -166,6 +166,6 @@ alike s m g e A (more good n rest) f good' like cs l nothing = absurd (lt-irrefl
 alike s m g e A (more {i = i} {A = B} good n rest) f good' like cs l (next {c = c} {cs = ds} t ts) =
     let d = decisionBy s m e i in
     let f' = computedFrom f (timed i c) d .engine in
-    ap (λ (x : Submitted). bareOf x ∷ bares (answersTo (x .engine) (under ds B))) (submit-alike s m g e f good good' like i n c t)
+    ap (λ (x : SubmitResult). bareOf x ∷ bares (answersTo (x .engine) (under ds B))) (submit-alike s m g e f good good' like i n c t)
     ∙ ap₂ _∷_ (bare-alike s m g e f good good' like i n c t d)
     (alike s m g (computedFrom e i d .engine) B rest f' (good-alike s m g e f good good' like i n c t) (next-alike s m g e f good good' like i n c t d) ds (omega arith) ts)

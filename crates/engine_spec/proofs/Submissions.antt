@@ -16,7 +16,7 @@ use Rattle.engine_spec.proofs.Effects.{Fair, trim}
 use Rattle.engine_spec.proofs.Validity.{Safe, safe-valid}
 use Rattle.engine_spec.specs.declared.types.Settings.{Settings}
 use Rattle.engine_spec.specs.declared.types.Engine.{Engine}
-use Rattle.engine_spec.specs.declared.types.Submitted.{Submitted}
+use Rattle.engine_spec.specs.declared.types.SubmitResult.{SubmitResult}
 use Rattle.engine_spec.specs.declared.types.Endpoint.{Endpoint}
 use Rattle.engine_spec.specs.declared.types.Endpoint.the-variants as endpoint
 use Rattle.engine_spec.specs.declared.types.Answer.{Answer}
@@ -30,7 +30,7 @@ clash h = absurd (subst (λ (b : Bool). T b) h tt)
 abbrev pub decisionBy : Settings → Matcher → Engine → Submission → Decision
 decisionBy s m e i = decide s m (i .window) (reachedBy (e .milestones)) (lockFrom e (i .window))
 
-abbrev pub computedBy : Settings → Matcher → Engine → Submission → Submitted
+abbrev pub computedBy : Settings → Matcher → Engine → Submission → SubmitResult
 computedBy s m e i = computedFrom e i (decisionBy s m e i)
 
 -- ---- a state that is reached
@@ -85,7 +85,7 @@ module _ (s : Settings) (m : Matcher) where
     pub answered : refuses (handedRefusal s i) ≡ false
     pub anew : rereads s (e .last .«endpoint_ms») (i .window) ≡ false
 
-  pub data Kind (e : Engine) (i : Submission) : Submitted → Type 0 where
+  pub data Kind (e : Engine) (i : Submission) : SubmitResult → Type 0 where
     refusal : refuses (handedRefusal s i) ≡ true → Kind e i (refused e (handedRefusal s i))
     again : refuses (handedRefusal s i) ≡ false → rereads s (e .last .«endpoint_ms») (i .window) ≡ true → Kind e i (reread e (i .window))
     computed : New e i → Kind e i (computedBy s m e i)
@@ -121,20 +121,20 @@ kind s m g e i good h =
         (computed (record { handed = h; answered = q; anew = p }))
 
 -- ---- the next state is one that is reached
-pub good-next : (s : Settings) (m : Matcher) → Grounds s m → (e : Engine) (i : Submission) (x : Submitted) → Good s e → Kind s m e i x → Good s (x .engine)
+pub good-next : (s : Settings) (m : Matcher) → Grounds s m → (e : Engine) (i : Submission) (x : SubmitResult) → Good s e → Kind s m e i x → Good s (x .engine)
 unfolding reread computedFrom
 good-next s m g e i x good (refusal q) = good
 good-next s m g e i x good (again q p) = good
 good-next s m g e i x good (computed n) = record { settings = good .settings; safe = g .safe e i good (n .handed) (n .answered); shown = refl }
 
 -- ---- a list of submissions, step by step
-abbrev pub answeredBy : Submission → Submitted → Answered
+abbrev pub answeredBy : Submission → SubmitResult → Answered
 answeredBy i x = record { submission = i; answer = x .answer; snapshot = x .snapshot }
 
 -- Each state is one that is reached, and each answer of one of the three kinds.
 pub data Steps (s : Settings) (m : Matcher) : Engine → List Submission → List Answered → Type 0 where
   stop : {e : Engine} → Steps s m e [] []
-  step : {e : Engine} {i : Submission} {x : Submitted} {l : List Submission} {A : List Answered} → Good s e → Kind s m e i x → Steps s m (x .engine) l A → Steps s m e (i ∷ l) (answeredBy i x ∷ A)
+  step : {e : Engine} {i : Submission} {x : SubmitResult} {l : List Submission} {A : List Answered} → Good s e → Kind s m e i x → Steps s m (x .engine) l A → Steps s m e (i ∷ l) (answeredBy i x ∷ A)
 
 pub steps : (s : Settings) (m : Matcher) → Grounds s m → (e : Engine) (l : List Submission) → Good s e → AllHanded s m l → Steps s m e l (answersTo e l)
 unfolding answersTo
@@ -154,13 +154,13 @@ module _ (s : Settings) (m : Matcher) (e : Engine) (i : Submission) where
   abbrev toldHere : Answer
   toldHere = answerTo s (e .last .«endpoint_ms») i
 
-  answer-is : (x : Submitted) → Kind s m e i x → x .answer ≡ toldHere
+  answer-is : (x : SubmitResult) → Kind s m e i x → x .answer ≡ toldHere
   unfolding answerTo reread computedFrom
   answer-is x (refusal q) = rw q refl
   answer-is x (again q p) = rw (q, p) refl
   answer-is x (computed n) = rw (n .answered, n .anew) refl
 
-  endpoint-is : (x : Submitted) → Kind s m e i x → x .engine .last .«endpoint_ms» ≡ cond (isComputed toldHere) (endpoint.At (endpointOf (i .window))) (e .last .«endpoint_ms»)
+  endpoint-is : (x : SubmitResult) → Kind s m e i x → x .engine .last .«endpoint_ms» ≡ cond (isComputed toldHere) (endpoint.At (endpointOf (i .window))) (e .last .«endpoint_ms»)
   unfolding answerTo reread computedFrom isComputed
   endpoint-is x (refusal q) = rw (q, refusal-struck (handedRefusal s i) q) refl
   endpoint-is x (again q p) = rw (q, p) refl

@@ -13,13 +13,12 @@ use Rattle.numbers_spec.specs.Arithmetic.{_⊕_, _⊖_, zero⁺, absolute, atLe
 use Rattle.numbers_spec.specs.Values.{AtMost}
 use Rattle.numbers_spec.proofs.Order.{at-most-finite}
 use Rattle.numbers_spec.proofs.Sums.{add-at-most, sub-at-most}
-use Rattle.matcher_spec.specs.Peaks.{most}
+use Rattle.matcher_spec.specs.Limits.{candidatesMost, farthestMs, trackMost}
 use Rattle.matcher_spec.specs.declared.types.Candidate.{Candidate}
 use Rattle.matcher_spec.specs.Index.{Matcher}
 use Rattle.matcher_spec.specs.Search.{wholeSearch, localSearch}
 use Rattle.matcher_spec.specs.SoundSearch.{SoundResult}
 use Rattle.matcher_spec.proofs.Bounds.{within-at-most}
-use Rattle.engine_spec.specs.Limits.{farthestMs, trackMost}
 use Rattle.engine_spec.specs.Thresholds.{samePlaceMs, supportCorrelation, supportRecent}
 use Rattle.engine_spec.specs.Windows.{Window, indexed, query, endpointOf, evidence, jumps, _after_}
 use Rattle.engine_spec.specs.Refusals.{Submission, within, near, hopInRange, validConfiguration, validSettings, trackNumber, validHypothesis, validSearchTime, validLock, validMilestone, validMilestones, validEndpoint, validEstimate, validSnapshot, validLast, validEngine}
@@ -128,11 +127,11 @@ best-place c b = at-most-wider foundMost placeMost (c .«offset_ms») (unfold le
 -- ---- the searches of one window, whose evidence time is in range
 record TrackedWell (t : Tracked) : Type 0 where
   accepted : Bounded (t .accepted)
-  few : length (t .found) ≤ most
+  few : length (t .found) ≤ candidatesMost
 
 record SearchedWell (x : Searched) : Type 0 where
   lock : LockBounds (x .lock)
-  few : length (x .found) ≤ most
+  few : length (x .found) ≤ candidatesMost
 
 since-bound : T (finite (trackMost ⊕ trackMost))
 unfolding add sum round units size span climb ofBits ofFields odd trailingZeros
@@ -248,7 +247,7 @@ verdict-offset (hypothesis.Held o f l c) now x (held O F L C) b =
 
 record DecisionWell (d : Decision) : Type 0 where
   lock : LockBounds (d .lock)
-  few : length (d .found) ≤ most
+  few : length (d .found) ≤ candidatesMost
   offset : Offset (d .verdict .offset)
 
 -- Without index no window is ready.
@@ -318,7 +317,7 @@ computed-safe e i d k n c y = record {
   last =
       unfold validLast validSnapshot validEndpoint in
       and-i (near (endpointOf (i .window) .0)) _ n
-      (and-i (leb (length (d .found)) most) _ (le→leb (length (d .found)) most (y .few))
+      (and-i (leb (length (d .found)) candidatesMost) _ (le→leb (length (d .found)) candidatesMost (y .few))
       (and-i (validEstimate (estimateAt (i .window) (d .verdict .offset))) _ (estimate-valid (i .window) (bounded farthestMs _ (T-is _ n)) (d .verdict .offset) (y .offset))
       (stamp-valid (e .milestones) (d .reached) (i .clock) (k .milestones) c)));
 }

@@ -44,16 +44,16 @@ passes s =
     && (clear (x .«competing_peak_margin») && (le passingHalf (x .«first_half_correlation») && le passingHalf (x .«second_half_correlation»))))
 
 -- The states that interrupt: Listening, Lost and Failed.
-unfoldable pub silent : State → Bool
-silent state.Ready = false
-silent state.Listening = true
-silent state.Locking = false
-silent state.Confirmed = false
-silent state.Locked = false
-silent state.Drifting = false
-silent state.Relocking = false
-silent state.Lost = true
-silent state.Failed = true
+unfoldable pub interrupting : State → Bool
+interrupting state.Ready = false
+interrupting state.Listening = true
+interrupting state.Locking = false
+interrupting state.Confirmed = false
+interrupting state.Locked = false
+interrupting state.Drifting = false
+interrupting state.Relocking = false
+interrupting state.Lost = true
+interrupting state.Failed = true
 
 -- The best candidate's offset, if the search found one.
 unfoldable pub bestOffset : Diagnostics → Maybe
@@ -94,7 +94,7 @@ module _ (hop : Float) (a : ℕ → Answered) where
 
   -- An interruption: a jump, or state Listening, Lost or Failed.
   abbrev pub interrupts : ℕ → Bool
-  interrupts i = jumpAt i || silent (shownAt i .state)
+  interrupts i = jumpAt i || interrupting (shownAt i .state)
 
   -- No interruption after i, up to and with j.
   abbrev pub Unbroken : ℕ → ℕ → Type 0

@@ -12,10 +12,11 @@ use Rattle.matcher_spec.specs.Candidates.{apartMs, marginOf}
 use Rattle.matcher_spec.specs.declared.types.Candidate.{Candidate}
 use Rattle.matcher_spec.specs.Index.{Matcher}
 use Rattle.matcher_spec.specs.Search.{wholeSearch}
-use Rattle.matcher_spec.specs.Words.{Every, F32}
-use Rattle.engine_spec.specs.Windows.{Soundtrack, Index, Window, indexed, query, endpointOf, rereads}
+use Rattle.numbers_spec.specs.Rows.{Every, F32}
+use Rattle.engine_spec.specs.Windows.{Index, Window, indexed, query, endpointOf, rereads}
+use Rattle.matcher_spec.specs.Features.{Features}
 use Rattle.engine_spec.specs.Refusals.{Submission, refuses, indexFits, handedRefusal}
-use Rattle.engine_spec.specs.Opening.{blankCandidate, blankSnapshot, opening, openedSettings, matcherOfFilm}
+use Rattle.engine_spec.specs.Opening.{blankCandidate, blankSnapshot, opening, openedSettings, matcherOfReference}
 use Rattle.engine_spec.specs.Publishing.{ofBest, ambiguous, candidateArray}
 use Rattle.engine_spec.specs.Submitting.{submit, isThere}
 use Rattle.engine_spec.specs.Chain.{Answered, shownAt, windowAt, wholeAt, EndsChain, OnChain, Coasts}
@@ -79,8 +80,8 @@ pub record Begins (front whole : List Float) : Type 0 where
 pub record FilledWith (m : Matcher) (x : Index) : Type 0 where
   pub fine : Begins (m .fine .values) (x .fine)
   pub coarse : Begins (m .coarse .values) (x .coarse)
-  pub fineSquares : Begins (m .fine .squares) (x .fineSquares)
-  pub coarseSquares : Begins (m .coarse .squares) (x .coarseSquares)
+  pub fineEnergy : Begins (m .fine .energy) (x .fineEnergy)
+  pub coarseEnergy : Begins (m .coarse .energy) (x .coarseEnergy)
 
 -- A submission to an engine with these settings, of a reference with this matcher. An index that is long enough is the one that opening filled (without index none is read); values are f32, as a slice of f32 is. All else may be anything.
 pub record Handed (s : Settings) (m : Matcher) (i : Submission) : Type 0 where
@@ -199,7 +200,7 @@ module _ (hop : Float) (m : Matcher) (a : ℕ → Answered) where
 abbrev pub unanswered : Answered
 unanswered = record {
   submission = record {
-    index = record { fine = []; coarse = []; fineSquares = []; coarseSquares = [] };
+    index = record { fine = []; coarse = []; fineEnergy = []; coarseEnergy = [] };
     window = record { bands = 0; times = []; energies = []; values = [] };
     clock = record { 0 = zero⁺ };
     room32 = 0;
@@ -222,6 +223,6 @@ pub record Promised (e : Engine) (m : Matcher) (l : List Submission) : Type 0 wh
 -- For every opening that is answered, with or without index, and every list of submissions.
 abbrev pub Guarantee : Type 0
 Guarantee =
-    (c : Configuration) (hop : Float) (film : Soundtrack) (x : Index) → Every F32 (film .values) → opening c hop film x .answer ≡ answer.Opened
-    → (l : List Submission) → AllHanded (openedSettings c hop film) (matcherOfFilm hop film) l
-    → Promised (opening c hop film x .engine) (matcherOfFilm hop film) l
+    (c : Configuration) (hop : Float) (reference : Features) (x : Index) → Every F32 (reference .values) → opening c hop reference x .answer ≡ answer.Opened
+    → (l : List Submission) → AllHanded (openedSettings c hop reference) (matcherOfReference hop reference) l
+    → Promised (opening c hop reference x .engine) (matcherOfReference hop reference) l

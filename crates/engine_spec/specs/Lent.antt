@@ -2,15 +2,12 @@
 use Prim.Native.Nat.{ℕ}
 use mathlib.Core.List.{List}
 use lib.Ieee.{Float}
-use Rattle.engine_spec.specs.Windows.{Soundtrack, Index, Window}
+use Rattle.engine_spec.specs.Windows.{Index, Window}
 use Rattle.engine_spec.specs.Refusals.{Submission}
 use Rattle.engine_spec.specs.declared.types.ClockMs.{ClockMs}
 
-abbrev pub film : ℕ → List Float → List Float → Soundtrack
-film bands times values = record { bands = bands; times = times; values = values }
-
 abbrev pub lent : List Float → List Float → List Float → List Float → Index
-lent fine coarse fineSquares coarseSquares = record { fine = fine; coarse = coarse; fineSquares = fineSquares; coarseSquares = coarseSquares }
+lent fine coarse fineEnergy coarseEnergy = record { fine = fine; coarse = coarse; fineEnergy = fineEnergy; coarseEnergy = coarseEnergy }
 
 abbrev pub window : ℕ → List Float → List Float → List Float → Window
 window bands times energies values = record { bands = bands; times = times; energies = energies; values = values }

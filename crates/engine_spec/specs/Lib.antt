@@ -1,5 +1,4 @@
 pub mod Thresholds
-pub mod Limits
 pub mod Windows
 pub mod Refusals
 pub mod Opening
@@ -11,7 +10,7 @@ pub mod Submitting
 pub mod SupportAge
 pub mod Chain
 pub mod Guarantee
-pub mod Reached
+pub mod Guaranteed
 pub mod Figures
 pub mod Lent
 pub mod Room

@@ -1,8 +1,8 @@
 -- The lock rules: whole searches, pending, the end of a chain, and which milestones are there (engine.rs, `process`). No clock stands among them. Definitions only.
 use mathlib.Core.Bool.{Bool, true, false, cond, not, _&&_, _||_}
 use mathlib.Core.List.{List, [], _∷_}
-use lib.Ieee.{Float, isNan, le, lt}
-use Rattle.numbers_spec.specs.Arithmetic.{_⊖_, absolute, atMost}
+use lib.Ieee.{Float, le, lt}
+use Rattle.numbers_spec.specs.Arithmetic.{_⊖_, absolute, least}
 use Rattle.matcher_spec.specs.Index.{Matcher}
 use Rattle.matcher_spec.specs.Search.{wholeSearch}
 use Rattle.matcher_spec.specs.Candidates.{marginOf}
@@ -26,10 +26,6 @@ pub record Reached : Type 0 where
 -- Due 500 after the last one, or 2,000 where the window supports the track.
 abbrev pub wholeDue : Bool → RecordedMs → RecordedMs → Bool
 wholeDue supported now last = le (cond supported supportedIntervalMs searchIntervalMs) (now after last)
-
--- `x.min(y)`: a NaN beside a number is passed over.
-unfoldable pub least : Float → Float → Float
-least x y = cond (isNan y) x (atMost y x)
 
 -- It passes by its best candidate's correlation and halves, and by its margin.
 unfoldable pub passing : List Candidate → Bool

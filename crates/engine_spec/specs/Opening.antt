@@ -3,9 +3,10 @@ use mathlib.Core.Bool.{Bool, true, false, cond, not, _&&_}
 use lib.ListN.{length, getD, replicate}
 use lib.Ieee.{Float, nan, inf, binary64, ofBits}
 use Rattle.numbers_spec.specs.Arithmetic.{zero⁺}
-use Rattle.matcher_spec.specs.Peaks.{most}
+use Rattle.matcher_spec.specs.Limits.{candidatesMost}
 use Rattle.matcher_spec.specs.Index.{Matcher, acceptsReference, matcherOf, filled}
-use Rattle.engine_spec.specs.Windows.{Soundtrack, Index}
+use Rattle.engine_spec.specs.Windows.{Index}
+use Rattle.matcher_spec.specs.Features.{Features}
 use Rattle.engine_spec.specs.Refusals.{refuses, openingRefusal}
 use Rattle.engine_spec.specs.declared.types.Configuration.{Configuration}
 use Rattle.engine_spec.specs.declared.types.Settings.{Settings}
@@ -14,7 +15,7 @@ use Rattle.engine_spec.specs.declared.types.Milestones.{Milestones}
 use Rattle.engine_spec.specs.declared.types.CandidateDiagnostics.{CandidateDiagnostics}
 use Rattle.engine_spec.specs.declared.types.Snapshot.{Snapshot}
 use Rattle.engine_spec.specs.declared.types.Engine.{Engine}
-use Rattle.engine_spec.specs.declared.types.Opened.{Opened}
+use Rattle.engine_spec.specs.declared.types.OpenResult.{OpenResult}
 use Rattle.engine_spec.specs.declared.types.Milestone.the-variants as milestone
 use Rattle.engine_spec.specs.declared.types.Hypothesis.the-variants as hypothesis
 use Rattle.engine_spec.specs.declared.types.Endpoint.the-variants as endpoint
@@ -57,7 +58,7 @@ blankSnapshot = record {
     «offset_tracker_confirmed» = false;
     «offset_tracker_stable» = false;
     «candidate_count» = 0;
-    candidates = replicate most blankCandidate;
+    candidates = replicate candidatesMost blankCandidate;
     spectral = record {
       «global_search» = false;
       correlation = zero⁺;
@@ -93,13 +94,13 @@ freshEngine s = record {
 }
 
 -- With index: the reference's counts and start.
-abbrev pub withIndex : Configuration → Float → Soundtrack → Settings
-withIndex c hop film = record {
+abbrev pub withIndex : Configuration → Float → Features → Settings
+withIndex c hop reference = record {
   configuration = c;
   «hop_ms» = hop;
-  «reference_frames» = length (film .times);
-  «reference_bands» = film .bands;
-  «reference_start_ms» = record { 0 = getD (film .times) 0 nan };
+  «reference_frames» = length (reference .times);
+  «reference_bands» = reference .bands;
+  «reference_start_ms» = record { 0 = getD (reference .times) 0 nan };
 }
 
 -- Without: counts and start are 0.
@@ -107,11 +108,11 @@ abbrev pub withoutIndex : Configuration → Float → Settings
 withoutIndex c hop = record { configuration = c; «hop_ms» = hop; «reference_frames» = 0; «reference_bands» = 0; «reference_start_ms» = record { 0 = zero⁺ } }
 
 -- Whether `SpectralMatcher::new` accepts the reference.
-abbrev pub acceptsFilm : Float → Soundtrack → Bool
-acceptsFilm hop film = acceptsReference hop (film .bands) (film .times) (film .values)
+abbrev pub acceptsFeatures : Float → Features → Bool
+acceptsFeatures hop reference = acceptsReference hop (reference .bands) (reference .times) (reference .values)
 
-abbrev pub openedSettings : Configuration → Float → Soundtrack → Settings
-openedSettings c hop film = cond (acceptsFilm hop film) (withIndex c hop film) (withoutIndex c hop)
+abbrev pub openedSettings : Configuration → Float → Features → Settings
+openedSettings c hop reference = cond (acceptsFeatures hop reference) (withIndex c hop reference) (withoutIndex c hop)
 
 -- No engine: one with hop 0, which every submission refuses with 7.
 unfoldable pub noEngine : Engine
@@ -128,27 +129,27 @@ noEngine =
     zero⁺)
 
 -- ---- opening
-unfoldable pub opening : Configuration → Float → Soundtrack → Index → Opened
-opening c hop film x =
-    let r = openingRefusal c hop film x in
-    record { answer = r; engine = cond (refuses r) noEngine (freshEngine (openedSettings c hop film)) }
+unfoldable pub opening : Configuration → Float → Features → Index → OpenResult
+opening c hop reference x =
+    let r = openingRefusal c hop reference x in
+    record { answer = r; engine = cond (refuses r) noEngine (freshEngine (openedSettings c hop reference)) }
 
 -- Whether the index is filled: not where opening is refused, and not where the reference is rejected.
-unfoldable pub fills : Configuration → Float → Soundtrack → Index → Bool
-fills c hop film x = not (refuses (openingRefusal c hop film x)) && acceptsFilm hop film
+unfoldable pub fills : Configuration → Float → Features → Index → Bool
+fills c hop reference x = not (refuses (openingRefusal c hop reference x)) && acceptsFeatures hop reference
 
 -- The matcher of a reference: what opening fills in.
-abbrev pub matcherOfFilm : Float → Soundtrack → Matcher
-matcherOfFilm hop film = matcherOf hop (film .bands) (film .times) (film .values)
+abbrev pub matcherOfReference : Float → Features → Matcher
+matcherOfReference hop reference = matcherOf hop (reference .bands) (reference .times) (reference .values)
 
 -- What the four buffers hold after opening: the filled part and the old tail, or all as it was.
-unfoldable pub openedIndex : Configuration → Float → Soundtrack → Index → Index
-openedIndex c hop film x =
-    let yes = fills c hop film x in
-    let m = matcherOfFilm hop film in
+unfoldable pub openedIndex : Configuration → Float → Features → Index → Index
+openedIndex c hop reference x =
+    let yes = fills c hop reference x in
+    let m = matcherOfReference hop reference in
     record {
       fine = filled yes (m .fine .values) (x .fine);
       coarse = filled yes (m .coarse .values) (x .coarse);
-      fineSquares = filled yes (m .fine .squares) (x .fineSquares);
-      coarseSquares = filled yes (m .coarse .squares) (x .coarseSquares);
+      fineEnergy = filled yes (m .fine .energy) (x .fineEnergy);
+      coarseEnergy = filled yes (m .coarse .energy) (x .coarseEnergy);
     }

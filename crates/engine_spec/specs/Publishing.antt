@@ -4,10 +4,9 @@ use mathlib.Core.Bool.{Bool, true, false, cond, _&&_}
 use mathlib.Core.List.{List, [], _∷_, _++_}
 use lib.ListN.{length, replicate}
 use lib.Ieee.{Float, lt, eq}
-use Rattle.numbers_spec.specs.Arithmetic.{_⊕_, _⊖_, _⊗_, _⊘_, zero⁺, one, atLeast, countOf}
-use Rattle.numbers_spec.specs.Values.{magnitude}
+use Rattle.numbers_spec.specs.Arithmetic.{_⊕_, _⊖_, _⊗_, _⊘_, zero⁺, one, atLeast, countOf, magnitude}
 use Rattle.matcher_spec.specs.Centring.{contextFrames}
-use Rattle.matcher_spec.specs.Peaks.{most}
+use Rattle.matcher_spec.specs.Limits.{candidatesMost}
 use Rattle.matcher_spec.specs.Candidates.{marginOf}
 use Rattle.matcher_spec.specs.declared.types.Candidate.{Candidate}
 use Rattle.matcher_spec.specs.Index.{Matcher}
@@ -160,7 +159,7 @@ candidatesShown hop w (c ∷ cs) = candidateShown hop w c ∷ candidatesShown ho
 
 -- As the array of 8 that a snapshot has.
 abbrev pub candidateArray : Float → Window → List Candidate → List CandidateDiagnostics
-candidateArray hop w found = candidatesShown hop w found ++ replicate (most - length found) blankCandidate
+candidateArray hop w found = candidatesShown hop w found ++ replicate (candidatesMost - length found) blankCandidate
 
 -- A track is shown.
 unfoldable pub isPublishing : State → Bool

@@ -1,12 +1,12 @@
 -- Readiness: why a window cannot be searched (document 01, Engine; engine.rs, `process`). Definitions only.
-use Prim.Native.Nat.{ℕ, zero, suc}
+use Prim.Native.Nat.{ℕ}
 use mathlib.Core.Bool.{Bool, true, false, cond, not}
 use lib.ListN.{length, getD}
 use lib.Ieee.{Float, nan, inf, lt, le}
 use Rattle.numbers_spec.specs.Arithmetic.{_⊖_, _⊗_, _⊘_, zero⁺, atMost, real}
 use Rattle.numbers_spec.specs.Exponential.{tenTo}
 use Rattle.numbers_spec.specs.Logarithm.{log10Of}
-use Rattle.numbers_spec.specs.Rows.{sumTo}
+use Rattle.numbers_spec.specs.Rows.{sumTo, tally}
 use Rattle.engine_spec.specs.Thresholds.{ten}
 use Rattle.engine_spec.specs.Windows.{Window, indexed, acceptsTimeline, duration}
 use Rattle.engine_spec.specs.declared.types.Configuration.{Configuration}
@@ -15,11 +15,6 @@ use Rattle.engine_spec.specs.declared.types.WithholdReason.{WithholdReas
 use Rattle.engine_spec.specs.declared.types.WithholdReason.the-variants as reason
 
 -- ---- how loud a window is
--- For how many of 0, 1, .. n - 1 p holds.
-unfoldable pub tally : (ℕ → Bool) → ℕ → ℕ
-tally p zero = 0
-tally p (suc n) = cond (p n) (suc (tally p n)) (tally p n)
-
 -- The part of the frames whose energy reaches the threshold.
 unfoldable pub activeFraction : Configuration → Window → Float
 activeFraction c w = real (tally (λ (i : ℕ). le (c .«minimum_active_frame_energy_dbfs») (getD (w .energies) i nan)) (length (w .times))) ⊘ real (length (w .times))

@@ -1,18 +1,16 @@
 -- What each operation refuses, and with which number (document 01, "What each operation refuses"). Definitions only.
 use Prim.Native.Nat.{ℕ, _+_, _*_, _/_}
 use mathlib.Core.Bool.{Bool, true, false, cond, not, _&&_, _||_}
-use mathlib.Core.List.{List}
 use lib.Dec.{leb, ltb, eqb}
-use lib.ListN.{length, getD}
-use lib.Ieee.{Float, nan, inf, lt, le, eq, neg}
+use lib.ListN.{length}
+use lib.Ieee.{Float, inf, lt, le, eq, neg}
 use lib.Ieee.Scale.{finite}
 use Rattle.numbers_spec.specs.Arithmetic.{zero⁺, one}
-use Rattle.numbers_spec.specs.Rows.{allTo}
 use Rattle.matcher_spec.specs.Timeline.{validValues}
 use Rattle.matcher_spec.specs.Energy.{reduction}
-use Rattle.matcher_spec.specs.Peaks.{most}
-use Rattle.engine_spec.specs.Limits.{hopLeast, hopMost, framesMost, windowMost, bandsMost, farthestMs, trackMost}
-use Rattle.engine_spec.specs.Windows.{Soundtrack, Index, Window}
+use Rattle.matcher_spec.specs.Limits.{candidatesMost, hopLeast, hopMost, framesMost, windowMost, bandsMost, farthestMs, trackMost}
+use Rattle.engine_spec.specs.Windows.{Index, Window}
+use Rattle.matcher_spec.specs.Features.{Features}
 use Rattle.engine_spec.specs.declared.types.RecordedMs.{RecordedMs}
 use Rattle.engine_spec.specs.declared.types.ClockMs.{ClockMs}
 use Rattle.engine_spec.specs.declared.types.Configuration.{Configuration}
@@ -32,6 +30,7 @@ use Rattle.engine_spec.specs.declared.types.Estimate.{Estimate}
 use Rattle.engine_spec.specs.declared.types.Estimate.the-variants as estimate
 use Rattle.engine_spec.specs.declared.types.Answer.{Answer}
 use Rattle.engine_spec.specs.declared.types.Answer.the-variants as answer
+use Rattle.numbers_spec.specs.Rows.{every}
 
 -- ---- the numbers
 unfoldable pub numberOf : Answer → ℕ
@@ -68,10 +67,6 @@ within l x = le (neg l) x && le x l
 abbrev pub near : Float → Bool
 near t = within farthestMs t
 
--- Every number of the list passes.
-unfoldable pub every : (Float → Bool) → List Float → Bool
-every p l = allTo (λ (i : ℕ). p (getD l i nan)) (length l)
-
 -- ---- 1: `Configuration::validate`
 abbrev pub validDuration : Float → Bool
 validDuration d = finite d && lt zero⁺ d
@@ -101,17 +96,17 @@ unfoldable pub indexFits : ℕ → ℕ → Index → Bool
 indexFits frames bands x =
     leb (bands * frames) (length (x .fine))
     && (leb (bands * (frames / reduction)) (length (x .coarse))
-    && (leb (bands * (frames + 1)) (length (x .fineSquares)) && leb (bands * (frames / reduction + 1)) (length (x .coarseSquares))))
+    && (leb (bands * (frames + 1)) (length (x .fineEnergy)) && leb (bands * (frames / reduction + 1)) (length (x .coarseEnergy))))
 
 -- ---- the order of opening
-unfoldable pub openingRefusal : Configuration → Float → Soundtrack → Index → Answer
-openingRefusal c hop film x =
+unfoldable pub openingRefusal : Configuration → Float → Features → Index → Answer
+openingRefusal c hop reference x =
     unless (validConfiguration c) answer.InvalidConfiguration
     (unless (hopInRange hop) answer.HopOutOfRange
-    (unless (countsInRange (length (film .times)) (film .bands)) answer.ReferenceTooLarge
-    (unless (eqb (length (film .values)) (film .bands * length (film .times))) answer.ReferenceMiscounted
-    (unless (every nearOrNotFinite (film .times)) answer.ReferenceTimeTooFar
-    (unless (indexFits (length (film .times)) (film .bands) x) answer.IndexTooShort
+    (unless (countsInRange (length (reference .times)) (reference .bands)) answer.ReferenceTooLarge
+    (unless (eqb (length (reference .values)) (reference .bands * length (reference .times))) answer.ReferenceMiscounted
+    (unless (every nearOrNotFinite (reference .times)) answer.ReferenceTimeTooFar
+    (unless (indexFits (length (reference .times)) (reference .bands) x) answer.IndexTooShort
     answer.Opened)))))
 
 -- ---- 7: what a state holds
@@ -157,7 +152,7 @@ validEstimate (estimate.At recorded reference offset) = trackNumber (recorded .0
 
 -- At most 8 candidates, and the estimate and the milestones of a state.
 unfoldable pub validSnapshot : Snapshot → Bool
-validSnapshot s = leb (s .diagnostics .«candidate_count») most && (validEstimate (s .estimate) && validMilestones (s .milestones))
+validSnapshot s = leb (s .diagnostics .«candidate_count») candidatesMost && (validEstimate (s .estimate) && validMilestones (s .milestones))
 
 -- Where there is no last snapshot, nothing is asked of one.
 unfoldable pub validLast : Last → Bool

@@ -9,7 +9,7 @@ use Rattle.engine_spec.specs.declared.types.ClockMs.{ClockMs}
 use Rattle.engine_spec.specs.declared.types.Lock.{Lock}
 use Rattle.engine_spec.specs.declared.types.Milestones.{Milestones}
 use Rattle.engine_spec.specs.declared.types.Engine.{Engine}
-use Rattle.engine_spec.specs.declared.types.Submitted.{Submitted}
+use Rattle.engine_spec.specs.declared.types.SubmitResult.{SubmitResult}
 use Rattle.engine_spec.specs.declared.types.Maybe.the-variants as maybe
 use Rattle.engine_spec.specs.declared.types.Milestone.{Milestone}
 use Rattle.engine_spec.specs.declared.types.Milestone.the-variants as milestone
@@ -53,7 +53,7 @@ abbrev pub moved : Window → Estimate → Estimate
 moved w estimate.Absent = estimate.Absent
 moved w (estimate.At recorded reference offset) = estimateAt w (maybe.Is offset)
 
-unfoldable pub reread : Engine → Window → Submitted
+unfoldable pub reread : Engine → Window → SubmitResult
 reread e w =
     let s = e .last .snapshot in
     record {
@@ -80,7 +80,7 @@ unfoldable pub decisionOn : Engine → Submission → Decision
 decisionOn e i = decide (e .settings) (matcherIn (e .settings) (i .index)) (i .window) (reachedBy (e .milestones)) (lockFrom e (i .window))
 
 -- The state after a decision, with its milestones stamped.
-unfoldable pub computedFrom : Engine → Submission → Decision → Submitted
+unfoldable pub computedFrom : Engine → Submission → Decision → SubmitResult
 computedFrom e i d =
     let m = stamp (e .milestones) (d .reached) (i .clock) in
     let s = publish (e .settings) (i .window) d m in
@@ -96,15 +96,15 @@ computedFrom e i d =
     }
 
 -- ---- a refusal: the same state and no snapshot
-abbrev pub refused : Engine → Answer → Submitted
+abbrev pub refused : Engine → Answer → SubmitResult
 refused e r = record { answer = r; engine = e; snapshot = blankSnapshot }
 
 -- ---- submission
 -- What is not refused is re-read, where there is a last snapshot, or computed.
-unfoldable pub answeredFrom : Engine → Submission → Submitted
+unfoldable pub answeredFrom : Engine → Submission → SubmitResult
 answeredFrom e i =
     cond (e .last .«has_snapshot» && rereads (e .settings) (e .last .«endpoint_ms») (i .window)) (reread e (i .window))
     (computedFrom e i (decisionOn e i))
 
-unfoldable pub submit : Engine → Submission → Submitted
+unfoldable pub submit : Engine → Submission → SubmitResult
 submit e i = cond (refuses (submissionRefusal e i)) (refused e (submissionRefusal e i)) (answeredFrom e i)

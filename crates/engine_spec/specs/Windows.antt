@@ -10,7 +10,7 @@ use Rattle.matcher_spec.specs.Centring.{contextFrames}
 use Rattle.matcher_spec.specs.Timeline.{accepts}
 use Rattle.matcher_spec.specs.Index.{Matcher, lentMatcher}
 use Rattle.matcher_spec.specs.declared.types.Reference.{Reference}
-use Rattle.matcher_spec.specs.Search as search
+use Rattle.matcher_spec.specs.Features.{Features, features}
 use Rattle.engine_spec.specs.Thresholds.{rereadMs}
 use Rattle.engine_spec.specs.declared.types.RecordedMs.{RecordedMs}
 use Rattle.engine_spec.specs.declared.types.Settings.{Settings}
@@ -18,18 +18,12 @@ use Rattle.engine_spec.specs.declared.types.Endpoint.{Endpoint}
 use Rattle.engine_spec.specs.declared.types.Endpoint.the-variants as endpoint
 
 -- ---- what is lent
--- A reference: a time for each frame, and values band after band.
-pub record Soundtrack : Type 0 where
-  pub bands : ℕ
-  pub times : List Float
-  pub values : List Float
-
 -- The four buffers of the index.
 pub record Index : Type 0 where
   pub fine : List Float
   pub coarse : List Float
-  pub fineSquares : List Float
-  pub coarseSquares : List Float
+  pub fineEnergy : List Float
+  pub coarseEnergy : List Float
 
 -- A window: a time and an energy for each frame, and values band after band.
 pub record Window : Type 0 where
@@ -48,7 +42,7 @@ referenceOf s = record { bands = s .«reference_bands»; frames = s .«reference
 
 -- The matcher that a lent index holds.
 abbrev pub matcherIn : Settings → Index → Matcher
-matcherIn s x = lentMatcher (referenceOf s) (x .fine) (x .coarse) (x .fineSquares) (x .coarseSquares)
+matcherIn s x = lentMatcher (referenceOf s) (x .fine) (x .coarse) (x .fineEnergy) (x .coarseEnergy)
 
 -- ---- a window's times
 -- How long b lies after a, in f64.
@@ -70,8 +64,8 @@ unfoldable pub evidence : Float → Window → RecordedMs
 evidence hop w = record { 0 = endpointOf w .0 ⊖ contextFrames hop ⊗ hop }
 
 -- ---- a window as the matcher takes it
-abbrev pub query : Window → search.Window
-query w = search.windowOf (w .bands) (w .times) (w .values)
+abbrev pub query : Window → Features
+query w = features (w .bands) (w .times) (w .values)
 
 -- An accepted timeline.
 abbrev pub acceptsTimeline : Settings → Window → Bool

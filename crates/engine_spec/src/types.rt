@@ -203,13 +203,13 @@ pub enum Answer {
 }
 
 // Where opening is refused, `engine` is one that every submission refuses.
-pub struct Opened {
+pub struct OpenResult {
     pub answer: Answer,
     pub engine: Engine,
 }
 
 // Where a submission is refused, `engine` is the one handed in and `snapshot` is blank.
-pub struct Submitted {
+pub struct SubmitResult {
     pub answer: Answer,
     pub engine: Engine,
     pub snapshot: Snapshot,

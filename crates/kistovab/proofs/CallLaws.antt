@@ -8,17 +8,19 @@ use borrow.Author.Tests.{ne-eqb}
 use lib.Dec.{ltb, eqb}
 use lib.ListN.{length, drop}
 use lib.Ieee.{Float}
-use Rattle.engine_spec.specs.Reached.{Guaranteed}
-use Rattle.engine_spec.specs.Windows.{Soundtrack, Index, rereads}
-use Rattle.engine_spec.specs.Refusals.{Submission, numberOf, refuses, unless, every, nearOrNotFinite, validConfiguration, hopInRange, countsInRange, indexFits, openingRefusal, submissionRefusal}
+use Rattle.engine_spec.specs.Guaranteed.{Guaranteed}
+use Rattle.engine_spec.specs.Windows.{Index, rereads}
+use Rattle.matcher_spec.specs.Features.{Features}
+use Rattle.engine_spec.specs.Refusals.{Submission, numberOf, refuses, unless, nearOrNotFinite, validConfiguration, hopInRange, countsInRange, indexFits, openingRefusal, submissionRefusal}
+use Rattle.numbers_spec.specs.Rows.{every}
 use Rattle.engine_spec.specs.Opening.{opening}
 use Rattle.engine_spec.specs.Submitting.{refused, reread, computedFrom, decisionOn, answeredFrom, submit}
 use Rattle.engine_spec.specs.Guarantee.{isComputed}
 use Rattle.engine_spec.proofs.Submissions.{clash, refusal-struck}
 use Rattle.engine_spec.specs.declared.types.Configuration.{Configuration}
 use Rattle.engine_spec.specs.declared.types.Engine.{Engine}
-use Rattle.engine_spec.specs.declared.types.Opened.{Opened}
-use Rattle.engine_spec.specs.declared.types.Submitted.{Submitted}
+use Rattle.engine_spec.specs.declared.types.OpenResult.{OpenResult}
+use Rattle.engine_spec.specs.declared.types.SubmitResult.{SubmitResult}
 use Rattle.engine_spec.specs.declared.types.Age.{Age}
 use Rattle.engine_spec.specs.declared.types.Maybe.{Maybe}
 use Rattle.engine_spec.specs.declared.types.Answer.{Answer}
@@ -59,37 +61,37 @@ or-opened : (b : Bool) (x r : Answer) → refuses x ≡ true → (refuses r ≡ 
 or-opened true x r q h k = h k
 or-opened false x r q h k = clash (sym q ∙ k)
 
-opened-answer : (c : Configuration) (hop : Float) (film : Soundtrack) (x : Index) → refuses (openingRefusal c hop film x) ≡ false → openingRefusal c hop film x ≡ answer.Opened
+opened-answer : (c : Configuration) (hop : Float) (reference : Features) (x : Index) → refuses (openingRefusal c hop reference x) ≡ false → openingRefusal c hop reference x ≡ answer.Opened
 unfolding openingRefusal numberOf
-opened-answer c hop film x =
-    let counted : Bool = eqb (length (film .values)) (film .bands * length (film .times)) in
-    let r6 : Answer = unless (indexFits (length (film .times)) (film .bands) x) answer.IndexTooShort answer.Opened in
-    let r5 : Answer = unless (every nearOrNotFinite (film .times)) answer.ReferenceTimeTooFar r6 in
+opened-answer c hop reference x =
+    let counted : Bool = eqb (length (reference .values)) (reference .bands * length (reference .times)) in
+    let r6 : Answer = unless (indexFits (length (reference .times)) (reference .bands) x) answer.IndexTooShort answer.Opened in
+    let r5 : Answer = unless (every nearOrNotFinite (reference .times)) answer.ReferenceTimeTooFar r6 in
     let r4 : Answer = unless counted answer.ReferenceMiscounted r5 in
-    let r3 : Answer = unless (countsInRange (length (film .times)) (film .bands)) answer.ReferenceTooLarge r4 in
+    let r3 : Answer = unless (countsInRange (length (reference .times)) (reference .bands)) answer.ReferenceTooLarge r4 in
     let r2 : Answer = unless (hopInRange hop) answer.HopOutOfRange r3 in
     or-opened (validConfiguration c) answer.InvalidConfiguration r2 refl
     (or-opened (hopInRange hop) answer.HopOutOfRange r3 refl
-    (or-opened (countsInRange (length (film .times)) (film .bands)) answer.ReferenceTooLarge r4 refl
+    (or-opened (countsInRange (length (reference .times)) (reference .bands)) answer.ReferenceTooLarge r4 refl
     (or-opened counted answer.ReferenceMiscounted r5 refl
-    (or-opened (every nearOrNotFinite (film .times)) answer.ReferenceTimeTooFar r6 refl
-    (or-opened (indexFits (length (film .times)) (film .bands) x) answer.IndexTooShort answer.Opened refl (λ k. refl))))))
+    (or-opened (every nearOrNotFinite (reference .times)) answer.ReferenceTimeTooFar r6 refl
+    (or-opened (indexFits (length (reference .times)) (reference .bands) x) answer.IndexTooShort answer.Opened refl (λ k. refl))))))
 
-pub opened-zero : (c : Configuration) (hop : Float) (film : Soundtrack) (x : Index) {o : Opened} → o ≡ opening c hop film x → refuses (o .answer) ≡ false → codeOf (o .answer) ≡ 0
+pub opened-zero : (c : Configuration) (hop : Float) (reference : Features) (x : Index) {o : OpenResult} → o ≡ opening c hop reference x → refuses (o .answer) ≡ false → codeOf (o .answer) ≡ 0
 unfolding opening codeOf
-opened-zero c hop film x {o} e h =
-    ap (λ (y : Opened). codeOf (y .answer)) e
-    ∙ ap codeOf (opened-answer c hop film x (ap (λ (y : Opened). refuses (y .answer)) (sym e) ∙ h))
+opened-zero c hop reference x {o} e h =
+    ap (λ (y : OpenResult). codeOf (y .answer)) e
+    ∙ ap codeOf (opened-answer c hop reference x (ap (λ (y : OpenResult). refuses (y .answer)) (sym e) ∙ h))
 
-pub open-code : (n : ℕ) {code : ℕ} {o p : Opened} → ltb n stateWords ≡ false → code ≡ codeOf (o .answer) → o ≡ p → code ≡ openCode n p
+pub open-code : (n : ℕ) {code : ℕ} {o p : OpenResult} → ltb n stateWords ≡ false → code ≡ codeOf (o .answer) → o ≡ p → code ≡ openCode n p
 unfolding openCode
-open-code n q e s = simp q (e ∙ ap (λ (y : Opened). codeOf (y .answer)) s)
+open-code n q e s = simp q (e ∙ ap (λ (y : OpenResult). codeOf (y .answer)) s)
 
 pub index-after : (n : ℕ) (old : Index) {new opened : Index} → ltb n stateWords ≡ false → new ≡ opened → new ≡ indexAfter n opened old
 unfolding indexAfter
 index-after n old q e = simp q e
 
-pub short-code : (n : ℕ) (o : Opened) → ltb n stateWords ≡ true → wordsTooShort ≡ openCode n o
+pub short-code : (n : ℕ) (o : OpenResult) → ltb n stateWords ≡ true → wordsTooShort ≡ openCode n o
 unfolding openCode
 short-code n o q = simp q
 
@@ -97,20 +99,20 @@ pub short-index : (n : ℕ) (opened old : Index) → ltb n stateWords ≡ true �
 unfolding indexAfter
 short-index n opened old q = simp q
 
-pub short-opens : (o : Opened) (state : List ℕ) → Opens wordsTooShort o state state
+pub short-opens : (o : OpenResult) (state : List ℕ) → Opens wordsTooShort o state state
 short-opens o state = record { held = λ h. absurd (omega arith); untouched = λ h. refl; tail = refl }
 
-pub refused-opens : {code : ℕ} {o p : Opened} (state : List ℕ) → code ≡ codeOf (o .answer) → o ≡ p → refuses (o .answer) ≡ true → Opens code p state state
+pub refused-opens : {code : ℕ} {o p : OpenResult} (state : List ℕ) → code ≡ codeOf (o .answer) → o ≡ p → refuses (o .answer) ≡ true → Opens code p state state
 refused-opens {o = o} state c e h = record { held = λ z. absurd (omega (arith, c, refusal-code (o .answer) h .0)); untouched = λ z. refl; tail = refl }
 
-pub opened-opens : {code : ℕ} {o p : Opened} {state new : List ℕ} → code ≡ 0 → o ≡ p → stateIn new ≡ o .engine → drop stateWords new ≡ drop stateWords state → Opens code p state new
-opened-opens z e h t = record { held = λ y. h ∙ ap (λ (x : Opened). x .engine) e; untouched = λ y. absurd (omega arith); tail = t }
+pub opened-opens : {code : ℕ} {o p : OpenResult} {state new : List ℕ} → code ≡ 0 → o ≡ p → stateIn new ≡ o .engine → drop stateWords new ≡ drop stateWords state → Opens code p state new
+opened-opens z e h t = record { held = λ y. h ∙ ap (λ (x : OpenResult). x .engine) e; untouched = λ y. absurd (omega arith); tail = t }
 
-pub guaranteed-of : {c : Configuration} {hop : Float} {film : Soundtrack} {x : Index} {o p : Opened} → o ≡ p → Guaranteed c hop film x o → Guaranteed c hop film x p
-guaranteed-of {c} {hop} {film} {x} e g = subst (λ (y : Opened). Guaranteed c hop film x y) e g
+pub guaranteed-of : {c : Configuration} {hop : Float} {reference : Features} {x : Index} {o p : OpenResult} → o ≡ p → Guaranteed c hop reference x o → Guaranteed c hop reference x p
+guaranteed-of {c} {hop} {reference} {x} e g = subst (λ (y : OpenResult). Guaranteed c hop reference x y) e g
 
 -- ---- submission: its three ways
-pub data Way (e : Engine) (s : Submitted) : Type 0 where
+pub data Way (e : Engine) (s : SubmitResult) : Type 0 where
   refusal : refuses (s .answer) ≡ true → s .engine ≡ e → Way e s
   again : s .answer ≡ answer.Reread → s .engine ≡ e → Way e s
   computed : s .answer ≡ answer.Computed → Way e s
@@ -125,19 +127,19 @@ way : (e : Engine) (i : Submission) → Way e (submit e i)
 unfolding submit answeredFrom
 way e i = way-of e i (refuses (submissionRefusal e i)) (e .last .«has_snapshot» && rereads (e .settings) (e .last .«endpoint_ms») (i .window)) refl
 
-pub submit-code : (n k : ℕ) {code : ℕ} {s t : Submitted} → ltb n stateWords ≡ false → ltb k snapshotWords ≡ false → code ≡ codeOf (s .answer) → s ≡ t → code ≡ submitCode n k t
+pub submit-code : (n k : ℕ) {code : ℕ} {s t : SubmitResult} → ltb n stateWords ≡ false → ltb k snapshotWords ≡ false → code ≡ codeOf (s .answer) → s ≡ t → code ≡ submitCode n k t
 unfolding submitCode
-submit-code n k p q c e = simp (p, q) (c ∙ ap (λ (x : Submitted). codeOf (x .answer)) e)
+submit-code n k p q c e = simp (p, q) (c ∙ ap (λ (x : SubmitResult). codeOf (x .answer)) e)
 
-pub few-words : (n k : ℕ) (t : Submitted) → ltb n stateWords ≡ true → wordsTooShort ≡ submitCode n k t
+pub few-words : (n k : ℕ) (t : SubmitResult) → ltb n stateWords ≡ true → wordsTooShort ≡ submitCode n k t
 unfolding submitCode
 few-words n k t p = simp p
 
-pub few-shown : (n k : ℕ) (t : Submitted) → ltb n stateWords ≡ false → ltb k snapshotWords ≡ true → wordsTooShort ≡ submitCode n k t
+pub few-shown : (n k : ℕ) (t : SubmitResult) → ltb n stateWords ≡ false → ltb k snapshotWords ≡ true → wordsTooShort ≡ submitCode n k t
 unfolding submitCode
 few-shown n k t p q = simp (p, q)
 
-pub short-submits : (s : Submitted) (state snapshot : List ℕ) → Submits wordsTooShort s state state snapshot snapshot
+pub short-submits : (s : SubmitResult) (state snapshot : List ℕ) → Submits wordsTooShort s state state snapshot snapshot
 short-submits s state snapshot = record {
   held = λ h. absurd (omega arith);
   untouched = λ h. refl;
@@ -147,13 +149,13 @@ short-submits s state snapshot = record {
   shown-tail = refl;
 }
 
-kept : (e : Engine) (s : Submitted) → Way e s → refuses (s .answer) ≡ true → s .engine ≡ e
+kept : (e : Engine) (s : SubmitResult) → Way e s → refuses (s .answer) ≡ true → s .engine ≡ e
 unfolding numberOf
 kept e s (refusal q p) h = p
 kept e s (again q p) h = p
 kept e s (computed q) h = clash (sym h ∙ ap (λ (a : Answer). refuses a) q)
 
-pub refused-submits : (s : Submitted) (state snapshot : List ℕ) → Way (stateIn state) s → refuses (s .answer) ≡ true → Submits (codeOf (s .answer)) s state state snapshot snapshot
+pub refused-submits : (s : SubmitResult) (state snapshot : List ℕ) → Way (stateIn state) s → refuses (s .answer) ≡ true → Submits (codeOf (s .answer)) s state state snapshot snapshot
 refused-submits s state snapshot w h = record {
   held = λ z. sym (kept (stateIn state) s w h);
   untouched = λ z. refl;
@@ -163,7 +165,7 @@ refused-submits s state snapshot w h = record {
   shown-tail = refl;
 }
 
-pub reread-submits : (s : Submitted) (state snapshot new : List ℕ) → Way (stateIn state) s → refuses (s .answer) ≡ false → isComputed (s .answer) ≡ false → snapshotIn new ≡ s .snapshot
+pub reread-submits : (s : SubmitResult) (state snapshot new : List ℕ) → Way (stateIn state) s → refuses (s .answer) ≡ false → isComputed (s .answer) ≡ false → snapshotIn new ≡ s .snapshot
     → drop snapshotWords new ≡ drop snapshotWords snapshot → Submits (codeOf (s .answer)) s state state snapshot new
 unfolding codeOf isComputed
 reread-submits s state snapshot new (refusal q p) r c e t = clash (sym q ∙ r)
@@ -177,13 +179,13 @@ reread-submits s state snapshot new (again q p) r c e t = record {
   shown-tail = t;
 }
 
-computed-zero : (e : Engine) (s : Submitted) → Way e s → isComputed (s .answer) ≡ true → codeOf (s .answer) ≡ 0
+computed-zero : (e : Engine) (s : SubmitResult) → Way e s → isComputed (s .answer) ≡ true → codeOf (s .answer) ≡ 0
 unfolding codeOf isComputed
 computed-zero e s (refusal q p) c = clash (sym c ∙ refusal-struck (s .answer) q)
 computed-zero e s (again q p) c = clash (sym c ∙ ap isComputed q)
 computed-zero e s (computed q) c = ap codeOf q
 
-pub computed-submits : (s : Submitted) (state next snapshot new : List ℕ) → Way (stateIn state) s → isComputed (s .answer) ≡ true → stateIn next ≡ s .engine → drop stateWords next ≡ drop stateWords state
+pub computed-submits : (s : SubmitResult) (state next snapshot new : List ℕ) → Way (stateIn state) s → isComputed (s .answer) ≡ true → stateIn next ≡ s .engine → drop stateWords next ≡ drop stateWords state
     → snapshotIn new ≡ s .snapshot → drop snapshotWords new ≡ drop snapshotWords snapshot → Submits (codeOf (s .answer)) s state next snapshot new
 computed-submits s state next snapshot new w c h t e u =
     let zero : codeOf (s .answer) ≡ 0 = computed-zero (stateIn state) s w c in
@@ -197,23 +199,23 @@ computed-submits s state next snapshot new w c h t e u =
     }
 
 -- A snapshot is answered where it is not refused.
-pub answered : (e : Engine) (s : Submitted) → Way e s → refuses (s .answer) ≡ false → answers (codeOf (s .answer)) ≡ true
+pub answered : (e : Engine) (s : SubmitResult) → Way e s → refuses (s .answer) ≡ false → answers (codeOf (s .answer)) ≡ true
 unfolding codeOf
 answered e s (refusal q p) h = clash (sym q ∙ h)
 answered e s (again q p) h = ap (λ (a : Answer). answers (codeOf a)) q
 answered e s (computed q) h = ap (λ (a : Answer). answers (codeOf a)) q
 
 -- ---- the submission that the code made, by the words' own engine
-module _ (i : Submission) {e d : Engine} {s : Submitted} (read : e ≡ d) (made : s ≡ submit e i) where
+module _ (i : Submission) {e d : Engine} {s : SubmitResult} (read : e ≡ d) (made : s ≡ submit e i) where
   pub same : s ≡ submit d i
   same = made ∙ ap (λ (x : Engine). submit x i) read
 
   pub way-made : Way d s
-  way-made = subst (λ (x : Submitted). Way d x) (sym same) (way d i)
+  way-made = subst (λ (x : SubmitResult). Way d x) (sym same) (way d i)
 
-pub by-answer : {code : ℕ} {s t : Submitted} {state next snapshot new : List ℕ} → code ≡ codeOf (s .answer) → s ≡ t → Submits (codeOf (s .answer)) s state next snapshot new → Submits code t state next snapshot new
+pub by-answer : {code : ℕ} {s t : SubmitResult} {state next snapshot new : List ℕ} → code ≡ codeOf (s .answer) → s ≡ t → Submits (codeOf (s .answer)) s state next snapshot new → Submits code t state next snapshot new
 by-answer {code} {s} {t} {state} {next} {snapshot} {new} c e h =
-    subst (λ (k : ℕ). Submits k t state next snapshot new) (sym c) (subst (λ (x : Submitted). Submits (codeOf (s .answer)) x state next snapshot new) e h)
+    subst (λ (k : ℕ). Submits k t state next snapshot new) (sym c) (subst (λ (x : SubmitResult). Submits (codeOf (s .answer)) x state next snapshot new) e h)
 
 -- ---- support age
 module _ (n : ℕ) (old : Float) {a b : Age} (long : ltb n stateWords ≡ false) (same : a ≡ b) where

@@ -9,8 +9,8 @@ use lib.Ieee.{Float}
 use Rattle.engine_spec.specs.Windows.{Index}
 use Rattle.engine_spec.specs.Refusals.{refuses}
 use Rattle.engine_spec.specs.declared.types.Configuration.{Configuration}
-use Rattle.engine_spec.specs.declared.types.Opened.{Opened}
-use Rattle.engine_spec.specs.declared.types.Submitted.{Submitted}
+use Rattle.engine_spec.specs.declared.types.OpenResult.{OpenResult}
+use Rattle.engine_spec.specs.declared.types.SubmitResult.{SubmitResult}
 use Rattle.engine_spec.specs.declared.types.Age.{Age}
 use Rattle.engine_spec.specs.declared.types.Maybe.{Maybe}
 use Rattle.engine_spec.specs.declared.types.Maybe.the-variants as maybe
@@ -28,7 +28,7 @@ configured readiness tracking frameEnergy averageEnergy fraction = record {
 }
 
 -- What is answered with so many words lent for the state.
-unfoldable pub openCode : ℕ → Opened → ℕ
+unfoldable pub openCode : ℕ → OpenResult → ℕ
 openCode words o = cond (ltb words stateWords) wordsTooShort (codeOf (o .answer))
 
 -- What the index's buffers hold after it: as they were where the words are too few.
@@ -36,17 +36,17 @@ unfoldable pub indexAfter : ℕ → Index → Index → Index
 indexAfter words opened old = cond (ltb words stateWords) old opened
 
 -- What the state's words hold after it.
-pub record Opens (code : ℕ) (o : Opened) (old new : List ℕ) : Type 0 where
+pub record Opens (code : ℕ) (o : OpenResult) (old new : List ℕ) : Type 0 where
   pub held : code ≡ 0 → stateIn new ≡ o .engine
   pub untouched : 0 < code → new ≡ old
   pub tail : drop stateWords new ≡ drop stateWords old
 
 -- ---- submit
-unfoldable pub submitCode : ℕ → ℕ → Submitted → ℕ
+unfoldable pub submitCode : ℕ → ℕ → SubmitResult → ℕ
 submitCode words shown s = cond (ltb words stateWords) wordsTooShort (cond (ltb shown snapshotWords) wordsTooShort (codeOf (s .answer)))
 
 -- What the words of state and snapshot hold after it.
-pub record Submits (code : ℕ) (s : Submitted) (state state′ snapshot snapshot′ : List ℕ) : Type 0 where
+pub record Submits (code : ℕ) (s : SubmitResult) (state state′ snapshot snapshot′ : List ℕ) : Type 0 where
   -- the next state, which is the same where the submission is refused or re-read: then its words stay
   pub held : code < wordsTooShort → stateIn state′ ≡ s .engine
   pub untouched : 0 < code → state′ ≡ state

@@ -2,7 +2,7 @@
 use Prim.Native.Nat.{ℕ, _+_, _*_, _/_}
 use mathlib.Core.Bool.{cond, _&&_}
 use lib.Dec.{leb}
-use Rattle.engine_spec.specs.Limits.{framesMost, windowMost, bandsMost}
+use Rattle.matcher_spec.specs.Limits.{framesMost, windowMost, bandsMost}
 use Rattle.engine_spec.specs.Refusals.{countsInRange}
 
 -- ---- the index of a reference (engine_spec, `indexFits`)
@@ -12,11 +12,11 @@ fineLength frames bands = cond (countsInRange frames bands) (bands * frames) 0
 unfoldable pub coarseLength : ℕ → ℕ → ℕ
 coarseLength frames bands = cond (countsInRange frames bands) (bands * (frames / 4)) 0
 
-unfoldable pub fineSquaresLength : ℕ → ℕ → ℕ
-fineSquaresLength frames bands = cond (countsInRange frames bands) (bands * (frames + 1)) 0
+unfoldable pub fineEnergyLength : ℕ → ℕ → ℕ
+fineEnergyLength frames bands = cond (countsInRange frames bands) (bands * (frames + 1)) 0
 
-unfoldable pub coarseSquaresLength : ℕ → ℕ → ℕ
-coarseSquaresLength frames bands = cond (countsInRange frames bands) (bands * (frames / 4 + 1)) 0
+unfoldable pub coarseEnergyLength : ℕ → ℕ → ℕ
+coarseEnergyLength frames bands = cond (countsInRange frames bands) (bands * (frames / 4 + 1)) 0
 
 -- ---- the working buffers of a window (engine_spec, `workFits`)
 unfoldable pub work32Length : ℕ → ℕ → ℕ

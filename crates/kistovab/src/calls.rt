@@ -3,9 +3,9 @@
 ghost use lib.ListN.{length};
 ghost use mathlib.Core.Bool.{false};
 ghost use mathlib.Core.Path.{_≡_};
-ghost use Rattle.engine_spec.specs.Reached.{Guaranteed};
+ghost use Rattle.engine_spec.specs.Guaranteed.{Guaranteed};
 ghost use Rattle.engine_layout.specs.Layout.{stateIn};
-ghost use Rattle.engine_spec.specs.Lent.{film, handed, lent, window};
+ghost use Rattle.engine_spec.specs.Lent.{handed, lent, window};
 ghost use Rattle.engine_spec.specs.Opening.{openedIndex, opening};
 ghost use Rattle.engine_spec.specs.Submitting.{submit};
 ghost use Rattle.engine_spec.specs.SupportAge.{supportAge};
@@ -42,14 +42,14 @@ pub extern "C" fn kistovab_open(
     values: &[f32],
     fine: &mut [f32],
     coarse: &mut [f32],
-    fine_squares: &mut [f64],
-    coarse_squares: &mut [f64],
+    fine_energy: &mut [f64],
+    coarse_energy: &mut [f64],
     state: &mut [u64],
 ) -> u32
-    ensures { λ r. ⌜ r ≡ openCode (length (now (state .entry))) (opening (configured «minimum_readiness_duration_ms» «tracking_query_duration_ms» «minimum_active_frame_energy_dbfs» «minimum_average_energy_dbfs» «minimum_active_frame_fraction») «hop_ms» (film bands (now (times .entry)) (now (values .entry))) (lent (now (fine .entry)) (now (coarse .entry)) (now («fine_squares» .entry)) (now («coarse_squares» .entry)))) ⌝ }
-    ensures words { λ r. ⌜ Opens r (opening (configured «minimum_readiness_duration_ms» «tracking_query_duration_ms» «minimum_active_frame_energy_dbfs» «minimum_average_energy_dbfs» «minimum_active_frame_fraction») «hop_ms» (film bands (now (times .entry)) (now (values .entry))) (lent (now (fine .entry)) (now (coarse .entry)) (now («fine_squares» .entry)) (now («coarse_squares» .entry)))) (now (state .entry)) (now (state .exit)) ⌝ }
-    ensures index { λ r. ⌜ lent (now (fine .exit)) (now (coarse .exit)) (now («fine_squares» .exit)) (now («coarse_squares» .exit)) ≡ indexAfter (length (now (state .entry))) (openedIndex (configured «minimum_readiness_duration_ms» «tracking_query_duration_ms» «minimum_active_frame_energy_dbfs» «minimum_average_energy_dbfs» «minimum_active_frame_fraction») «hop_ms» (film bands (now (times .entry)) (now (values .entry))) (lent (now (fine .entry)) (now (coarse .entry)) (now («fine_squares» .entry)) (now («coarse_squares» .entry)))) (lent (now (fine .entry)) (now (coarse .entry)) (now («fine_squares» .entry)) (now («coarse_squares» .entry))) ⌝ }
-    ensures guarantee { λ r. ⌜ (r ≡ 0 → Guaranteed (configured «minimum_readiness_duration_ms» «tracking_query_duration_ms» «minimum_active_frame_energy_dbfs» «minimum_average_energy_dbfs» «minimum_active_frame_fraction») «hop_ms» (film bands (now (times .entry)) (now (values .entry))) (lent (now (fine .exit)) (now (coarse .exit)) (now («fine_squares» .exit)) (now («coarse_squares» .exit))) (opening (configured «minimum_readiness_duration_ms» «tracking_query_duration_ms» «minimum_active_frame_energy_dbfs» «minimum_average_energy_dbfs» «minimum_active_frame_fraction») «hop_ms» (film bands (now (times .entry)) (now (values .entry))) (lent (now (fine .entry)) (now (coarse .entry)) (now («fine_squares» .entry)) (now («coarse_squares» .entry))))) ⌝ }
+    ensures { λ r. ⌜ r ≡ openCode (length (now (state .entry))) (opening (configured «minimum_readiness_duration_ms» «tracking_query_duration_ms» «minimum_active_frame_energy_dbfs» «minimum_average_energy_dbfs» «minimum_active_frame_fraction») «hop_ms» (features bands (now (times .entry)) (now (values .entry))) (lent (now (fine .entry)) (now (coarse .entry)) (now («fine_energy» .entry)) (now («coarse_energy» .entry)))) ⌝ }
+    ensures words { λ r. ⌜ Opens r (opening (configured «minimum_readiness_duration_ms» «tracking_query_duration_ms» «minimum_active_frame_energy_dbfs» «minimum_average_energy_dbfs» «minimum_active_frame_fraction») «hop_ms» (features bands (now (times .entry)) (now (values .entry))) (lent (now (fine .entry)) (now (coarse .entry)) (now («fine_energy» .entry)) (now («coarse_energy» .entry)))) (now (state .entry)) (now (state .exit)) ⌝ }
+    ensures index { λ r. ⌜ lent (now (fine .exit)) (now (coarse .exit)) (now («fine_energy» .exit)) (now («coarse_energy» .exit)) ≡ indexAfter (length (now (state .entry))) (openedIndex (configured «minimum_readiness_duration_ms» «tracking_query_duration_ms» «minimum_active_frame_energy_dbfs» «minimum_average_energy_dbfs» «minimum_active_frame_fraction») «hop_ms» (features bands (now (times .entry)) (now (values .entry))) (lent (now (fine .entry)) (now (coarse .entry)) (now («fine_energy» .entry)) (now («coarse_energy» .entry)))) (lent (now (fine .entry)) (now (coarse .entry)) (now («fine_energy» .entry)) (now («coarse_energy» .entry))) ⌝ }
+    ensures guarantee { λ r. ⌜ (r ≡ 0 → Guaranteed (configured «minimum_readiness_duration_ms» «tracking_query_duration_ms» «minimum_active_frame_energy_dbfs» «minimum_average_energy_dbfs» «minimum_active_frame_fraction») «hop_ms» (features bands (now (times .entry)) (now (values .entry))) (lent (now (fine .exit)) (now (coarse .exit)) (now («fine_energy» .exit)) (now («coarse_energy» .exit))) (opening (configured «minimum_readiness_duration_ms» «tracking_query_duration_ms» «minimum_active_frame_energy_dbfs» «minimum_average_energy_dbfs» «minimum_active_frame_fraction») «hop_ms» (features bands (now (times .entry)) (now (values .entry))) (lent (now (fine .entry)) (now (coarse .entry)) (now («fine_energy» .entry)) (now («coarse_energy» .entry))))) ⌝ }
 {
     if state.len() < STATE_WORDS {
         return WORDS_TOO_SHORT;
@@ -69,8 +69,8 @@ pub extern "C" fn kistovab_open(
         values,
         fine,
         coarse,
-        fine_squares,
-        coarse_squares,
+        fine_energy,
+        coarse_energy,
     );
     let answer = opened.answer;
     if is_refusal(answer) {
@@ -87,8 +87,8 @@ pub extern "C" fn kistovab_submit(
     state: &mut [u64],
     fine: &[f32],
     coarse: &[f32],
-    fine_squares: &[f64],
-    coarse_squares: &[f64],
+    fine_energy: &[f64],
+    coarse_energy: &[f64],
     bands: usize,
     times: &[f64],
     energies: &[f64],
@@ -98,8 +98,8 @@ pub extern "C" fn kistovab_submit(
     work64: &mut [f64],
     snapshot: &mut [u64],
 ) -> u32
-    ensures { λ r. ⌜ r ≡ submitCode (length (now (state .entry))) (length (now (snapshot .entry))) (submit (stateIn (now (state .entry))) (handed (lent (now (fine .entry)) (now (coarse .entry)) (now («fine_squares» .entry)) (now («coarse_squares» .entry))) (window bands (now (times .entry)) (now (energies .entry)) (now (values .entry))) (record { 0 = «clock_ms» }) (length (now (work32 .entry))) (length (now (work64 .entry))))) ⌝ }
-    ensures words { λ r. ⌜ Submits r (submit (stateIn (now (state .entry))) (handed (lent (now (fine .entry)) (now (coarse .entry)) (now («fine_squares» .entry)) (now («coarse_squares» .entry))) (window bands (now (times .entry)) (now (energies .entry)) (now (values .entry))) (record { 0 = «clock_ms» }) (length (now (work32 .entry))) (length (now (work64 .entry))))) (now (state .entry)) (now (state .exit)) (now (snapshot .entry)) (now (snapshot .exit)) ⌝ }
+    ensures { λ r. ⌜ r ≡ submitCode (length (now (state .entry))) (length (now (snapshot .entry))) (submit (stateIn (now (state .entry))) (handed (lent (now (fine .entry)) (now (coarse .entry)) (now («fine_energy» .entry)) (now («coarse_energy» .entry))) (window bands (now (times .entry)) (now (energies .entry)) (now (values .entry))) (record { 0 = «clock_ms» }) (length (now (work32 .entry))) (length (now (work64 .entry))))) ⌝ }
+    ensures words { λ r. ⌜ Submits r (submit (stateIn (now (state .entry))) (handed (lent (now (fine .entry)) (now (coarse .entry)) (now («fine_energy» .entry)) (now («coarse_energy» .entry))) (window bands (now (times .entry)) (now (energies .entry)) (now (values .entry))) (record { 0 = «clock_ms» }) (length (now (work32 .entry))) (length (now (work64 .entry))))) (now (state .entry)) (now (state .exit)) (now (snapshot .entry)) (now (snapshot .exit)) ⌝ }
     ensures untouched { λ r. ⌜ (answers r ≡ false → (now (work32 .exit) ≡ now (work32 .entry)) × (now (work64 .exit) ≡ now (work64 .entry))) ⌝ }
     ensures lengths { λ r. ⌜ (length (now (work32 .exit)) ≡ length (now (work32 .entry))) × (length (now (work64 .exit)) ≡ length (now (work64 .entry))) ⌝ }
 {
@@ -114,8 +114,8 @@ pub extern "C" fn kistovab_submit(
         engine,
         fine,
         coarse,
-        fine_squares,
-        coarse_squares,
+        fine_energy,
+        coarse_energy,
         bands,
         times,
         energies,

@@ -2,12 +2,12 @@
 // refuses it too.
 ghost use mathlib.Core.Path.{_≡_};
 ghost use Rattle.engine_layout.specs.Layout.{snapshotWords, stateWords};
-ghost use Rattle.kistovab.specs.Sizes.{coarseLength, coarseSquaresLength, fineLength, fineSquaresLength, work32Length, work64Length};
-use engine_spec::limits::BANDS_MOST;
-use engine_spec::limits::FRAMES_MOST;
-use engine_spec::limits::WINDOW_MOST;
+ghost use Rattle.kistovab.specs.Sizes.{coarseLength, coarseEnergyLength, fineLength, fineEnergyLength, work32Length, work64Length};
 use engine_words::snapshots::SNAPSHOT_WORDS;
 use engine_words::states::STATE_WORDS;
+use matcher_spec::limits::BANDS_MOST;
+use matcher_spec::limits::FRAMES_MOST;
+use matcher_spec::limits::WINDOW_MOST;
 
 #[no_mangle]
 pub extern "C" fn kistovab_state_words() -> usize
@@ -50,8 +50,8 @@ pub extern "C" fn kistovab_coarse_length(frames: usize, bands: usize) -> usize
 }
 
 #[no_mangle]
-pub extern "C" fn kistovab_fine_squares_length(frames: usize, bands: usize) -> usize
-    ensures { λ r. ⌜ r ≡ fineSquaresLength frames bands ⌝ }
+pub extern "C" fn kistovab_fine_energy_length(frames: usize, bands: usize) -> usize
+    ensures { λ r. ⌜ r ≡ fineEnergyLength frames bands ⌝ }
 {
     if frames > FRAMES_MOST {
         return 0;
@@ -63,8 +63,8 @@ pub extern "C" fn kistovab_fine_squares_length(frames: usize, bands: usize) -> u
 }
 
 #[no_mangle]
-pub extern "C" fn kistovab_coarse_squares_length(frames: usize, bands: usize) -> usize
-    ensures { λ r. ⌜ r ≡ coarseSquaresLength frames bands ⌝ }
+pub extern "C" fn kistovab_coarse_energy_length(frames: usize, bands: usize) -> usize
+    ensures { λ r. ⌜ r ≡ coarseEnergyLength frames bands ⌝ }
 {
     if frames > FRAMES_MOST {
         return 0;

@@ -25,7 +25,8 @@ use Rattle.matcher_spec.specs.Candidates.{crowded, independent, independentFrom
 use Rattle.matcher_spec.specs.Energy.{Bands, allEnergies, averages, allAverages, bandsOf}
 use Rattle.matcher_spec.specs.Index.{Matcher, acceptsReference, lentBands}
 use Rattle.numbers_spec.specs.Rows.{row, rows}
-use Rattle.matcher_spec.specs.Search.{FilledQuery, QueryIn, Window, candidateIn, candidatesAt, localFound, localHigh, localLow, localSearch, queryOf, queryStart, queryValues, searchable, wholeFound, wholeSearch}
+use Rattle.matcher_spec.specs.Search.{FilledQuery, QueryIn, candidateIn, candidatesAt, localFound, localHigh, localLow, localSearch, queryOf, queryStart, queryValues, searchable, wholeFound, wholeSearch}
+use Rattle.matcher_spec.specs.Features.{Features}
 use Rattle.matcher_spec.specs.Timeline.{accepts, regular, validValues}
 use Rattle.matcher_spec.specs.declared.types.Candidate.{Candidate}
 use Rattle.matcher_spec.specs.declared.types.MatchResult.{MatchResult}
@@ -161,7 +162,7 @@ accepted-room hop bands times values h =
     )
 
 -- a window that is searchable has the reference's bands, more frames than centring takes away, and no more left than the reference has
-pub searchable-room : (x : Reference) (w : Window) → searchable x w ≡ true
+pub searchable-room : (x : Reference) (w : Features) → searchable x w ≡ true
     → (w .bands ≡ x .bands) × (2 * radius (x .«hop_ms») + 16 < length (w .times)) × (length (w .times) - 2 * radius (x .«hop_ms») ≤ x .frames)
 unfolding searchable accepts
 searchable-room x w h =
@@ -267,7 +268,7 @@ query-stays bands n v w e f p q =
     (λ i. bandsOf n (p i) (s i))
 
 -- fronts that were filled with the window's centred rows and their energies hold its query
-pub query-filled : (x : Reference) (w : Window) {r : ℕ} (work32 work64 : List Float) → r ≡ radius (x .«hop_ms») → w .bands ≡ x .bands
+pub query-filled : (x : Reference) (w : Features) {r : ℕ} (work32 work64 : List Float) → r ≡ radius (x .«hop_ms») → w .bands ≡ x .bands
     → take (w .bands * (length (w .times) - 2 * r)) work32 ≡ queryValues r (w .bands) (length (w .times)) (w .values)
     → take (w .bands * (length (w .times) - 2 * r + 1)) work64 ≡ allEnergies (w .bands) (length (w .times) - 2 * r) (queryValues r (w .bands) (length (w .times)) (w .values))
     → QueryIn x w work32 work64
@@ -280,7 +281,7 @@ query-filled x w {r} work32 work64 e same p q =
     (subst (λ (k : ℕ). lentBands (w .bands) (length (w .times) - 2 * k) work32 work64 ≡ queryOf k w) e t)
 
 -- what is found by the filled query of a searchable window is what a search of the window finds
-pub whole-answer : (m : Matcher) (w : Window) {r : ℕ} {found : MatchResult} (work32 work64 : List Float) → searchable (m .reference) w ≡ true → r ≡ radius (m .reference .«hop_ms»)
+pub whole-answer : (m : Matcher) (w : Features) {r : ℕ} {found : MatchResult} (work32 work64 : List Float) → searchable (m .reference) w ≡ true → r ≡ radius (m .reference .«hop_ms»)
     → QueryIn (m .reference) w work32 work64
     → found ≡ resultOf (wholeFound m (lentBands (m .reference .bands) (length (w .times) - 2 * r) work32 work64) (queryStart r w))
     → found ≡ resultOf (wholeSearch m w)
@@ -289,7 +290,7 @@ whole-answer m w {r} {found} work32 work64 test e q h =
     let at = subst (λ (k : ℕ). found ≡ resultOf (wholeFound m (lentBands (m .reference .bands) (length (w .times) - 2 * k) work32 work64) (queryStart k w))) e h in
     rw test (at ∙ ap (λ (b : Bands). resultOf (wholeFound m b (queryStart (radius (m .reference .«hop_ms»)) w))) q)
 
-pub local-answer : (x : Reference) (fine : Bands) (w : Window) (lower upper : Float) {r : ℕ} {found : MatchResult} (work32 work64 : List Float) → searchable x w ≡ true → r ≡ radius (x .«hop_ms»)
+pub local-answer : (x : Reference) (fine : Bands) (w : Features) (lower upper : Float) {r : ℕ} {found : MatchResult} (work32 work64 : List Float) → searchable x w ≡ true → r ≡ radius (x .«hop_ms»)
     → QueryIn x w work32 work64
     → found ≡ resultOf (localFound x fine (lentBands (x .bands) (length (w .times) - 2 * r) work32 work64) (queryStart r w) lower upper)
     → found ≡ resultOf (localSearch x fine w lower upper)
@@ -299,7 +300,7 @@ local-answer x fine w lower upper {r} {found} work32 work64 test e q h =
     rw test (at ∙ ap (λ (b : Bands). resultOf (localFound x fine b (queryStart (radius (x .«hop_ms»)) w) lower upper)) q)
 
 -- a search that leaves the fronts as they were leaves the query
-pub still-filled : (x : Reference) (w : Window) {filled : Bool} {r : ℕ} (work32 work64 after : List Float) → r ≡ radius (x .«hop_ms»)
+pub still-filled : (x : Reference) (w : Features) {filled : Bool} {r : ℕ} (work32 work64 after : List Float) → r ≡ radius (x .«hop_ms»)
     → lentBands (x .bands) (length (w .times) - 2 * r) work32 after ≡ lentBands (x .bands) (length (w .times) - 2 * r) work32 work64
     → FilledQuery x w filled work32 work64 → FilledQuery x w filled work32 after
 still-filled x w work32 work64 after e s f =
@@ -322,7 +323,7 @@ fewer done (c ∷ l) =
 pub independent-few : (found : MatchResult) {r : MatchResult} → r ≡ resultOf (independent (listed found)) → found .count ≤ 8 → r .count ≤ 8
 independent-few found e h = rw e (omega (arith, fewer [] (listed found), length-take (found .count) (found .candidates)))
 
-pub local-few : (x : Reference) (fine : Bands) (w : Window) (lower upper : Float) → length (localSearch x fine w lower upper) ≤ 8
+pub local-few : (x : Reference) (fine : Bands) (w : Features) (lower upper : Float) → length (localSearch x fine w lower upper) ≤ 8
 unfolding localSearch localFound
 local-few x fine w lower upper =
     let r = radius (x .«hop_ms») in

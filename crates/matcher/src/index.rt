@@ -25,34 +25,34 @@ pub fn accepts_reference(times: &[f64], values: &[f32], bands: usize, hop: f64) 
 // stand in the energies' place until these are filled.
 fn fill_fine(
     fine: &mut [f32],
-    squares: &mut [f64],
+    energy: &mut [f64],
     values: &[f32],
     bands: usize,
     n: usize,
     radius: usize,
 )
     requires { ⌜ 0 < bands ⌝ ∗ ⌜ 0 < n ⌝ ∗ ⌜ radius ≤ 250 ⌝ ∗ ⌜ bands * n ≤ length (now values) ⌝ }
-    requires { ⌜ bands * n ≤ length (now fine) ⌝ ∗ ⌜ bands * (n + 1) ≤ length (now squares) ⌝ }
+    requires { ⌜ bands * n ≤ length (now fine) ⌝ ∗ ⌜ bands * (n + 1) ≤ length (now energy) ⌝ }
     ensures { λ _. ⌜ now (fine .exit) ≡ fineValues radius bands n (now (values .entry)) ++ drop (bands * n) (now (fine .entry)) ⌝ }
-    ensures { λ _. ⌜ now (squares .exit) ≡ allEnergies bands n (fineValues radius bands n (now (values .entry))) ++ drop (bands * (n + 1)) (now (squares .entry)) ⌝ }
+    ensures { λ _. ⌜ now (energy .exit) ≡ allEnergies bands n (fineValues radius bands n (now (values .entry))) ++ drop (bands * (n + 1)) (now (energy .entry)) ⌝ }
 {
     let room = n + 1;
     let end = bands * n;
-    centre_bands(fine, &mut squares[..room], values, bands, n, radius, 0, n);
-    fill_energies(squares, &fine[..end], bands, n);
+    centre_bands(fine, &mut energy[..room], values, bands, n, radius, 0, n);
+    fill_energies(energy, &fine[..end], bands, n);
 }
 
 // The coarse half: each band averaged by fours, and its energies.
-fn fill_coarse(coarse: &mut [f32], squares: &mut [f64], fine: &[f32], bands: usize, n: usize)
+fn fill_coarse(coarse: &mut [f32], energy: &mut [f64], fine: &[f32], bands: usize, n: usize)
     requires { ⌜ bands * n ≤ length (now fine) ⌝ }
-    requires { ⌜ bands * (n / 4) ≤ length (now coarse) ⌝ ∗ ⌜ bands * (n / 4 + 1) ≤ length (now squares) ⌝ }
+    requires { ⌜ bands * (n / 4) ≤ length (now coarse) ⌝ ∗ ⌜ bands * (n / 4 + 1) ≤ length (now energy) ⌝ }
     ensures { λ _. ⌜ now (coarse .exit) ≡ allAverages bands n (now (fine .entry)) ++ drop (bands * (n / 4)) (now (coarse .entry)) ⌝ }
-    ensures { λ _. ⌜ now (squares .exit) ≡ allEnergies bands (n / 4) (allAverages bands n (now (fine .entry))) ++ drop (bands * (n / 4 + 1)) (now (squares .entry)) ⌝ }
+    ensures { λ _. ⌜ now (energy .exit) ≡ allEnergies bands (n / 4) (allAverages bands n (now (fine .entry))) ++ drop (bands * (n / 4 + 1)) (now (energy .entry)) ⌝ }
 {
     let size = n / 4;
     let end = bands * size;
     reduce_bands(coarse, fine, bands, n);
-    fill_energies(squares, &coarse[..end], bands, size);
+    fill_energies(energy, &coarse[..end], bands, size);
 }
 
 // Fills the fronts of the four buffers from the reference, and says so. Where the reference is
@@ -60,8 +60,8 @@ fn fill_coarse(coarse: &mut [f32], squares: &mut [f64], fine: &[f32], bands: usi
 pub fn fill_index(
     fine: &mut [f32],
     coarse: &mut [f32],
-    fine_squares: &mut [f64],
-    coarse_squares: &mut [f64],
+    fine_energy: &mut [f64],
+    coarse_energy: &mut [f64],
     bands: usize,
     hop: f64,
     times: &[f64],
@@ -69,19 +69,19 @@ pub fn fill_index(
 ) -> bool
     requires { ⌜ wideHop hop ≡ true ⌝ ∗ ⌜ length (now values) ≡ bands * length (now times) ⌝ }
     requires { ⌜ bands * length (now times) ≤ length (now fine) ⌝ ∗ ⌜ bands * (length (now times) / 4) ≤ length (now coarse) ⌝ }
-    requires { ⌜ bands * (length (now times) + 1) ≤ length (now «fine_squares») ⌝ ∗ ⌜ bands * (length (now times) / 4 + 1) ≤ length (now «coarse_squares») ⌝ }
+    requires { ⌜ bands * (length (now times) + 1) ≤ length (now «fine_energy») ⌝ ∗ ⌜ bands * (length (now times) / 4 + 1) ≤ length (now «coarse_energy») ⌝ }
     ensures { λ r. ⌜ r ≡ acceptsReference hop bands (now (times .entry)) (now (values .entry)) ⌝ }
     ensures { λ r. ⌜ now (fine .exit) ≡ filled r (matcherOf hop bands (now (times .entry)) (now (values .entry)) .fine .values) (now (fine .entry)) ⌝ }
     ensures { λ r. ⌜ now (coarse .exit) ≡ filled r (matcherOf hop bands (now (times .entry)) (now (values .entry)) .coarse .values) (now (coarse .entry)) ⌝ }
-    ensures { λ r. ⌜ now («fine_squares» .exit) ≡ filled r (matcherOf hop bands (now (times .entry)) (now (values .entry)) .fine .squares) (now («fine_squares» .entry)) ⌝ }
-    ensures { λ r. ⌜ now («coarse_squares» .exit) ≡ filled r (matcherOf hop bands (now (times .entry)) (now (values .entry)) .coarse .squares) (now («coarse_squares» .entry)) ⌝ }
+    ensures { λ r. ⌜ now («fine_energy» .exit) ≡ filled r (matcherOf hop bands (now (times .entry)) (now (values .entry)) .fine .energy) (now («fine_energy» .entry)) ⌝ }
+    ensures { λ r. ⌜ now («coarse_energy» .exit) ≡ filled r (matcherOf hop bands (now (times .entry)) (now (values .entry)) .coarse .energy) (now («coarse_energy» .entry)) ⌝ }
 {
     if !accepts_reference(times, values, bands, hop) {
         return false;
     }
     let n = times.len();
     let end = bands * n;
-    fill_fine(fine, fine_squares, values, bands, n, radius(hop));
-    fill_coarse(coarse, coarse_squares, &fine[..end], bands, n);
+    fill_fine(fine, fine_energy, values, bands, n, radius(hop));
+    fill_coarse(coarse, coarse_energy, &fine[..end], bands, n);
     true
 }

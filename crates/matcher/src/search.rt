@@ -5,12 +5,13 @@ ghost use mathlib.Core.Bool.{true};
 ghost use mathlib.Core.List.{[], _∷_};
 ghost use mathlib.Core.Path.{_≡_};
 ghost use Rattle.matcher_spec.specs.Candidates.{listed, resultOf, sortInto, sorted};
-ghost use Rattle.matcher_spec.specs.Energy.{allEnergies, bandsOf, reduced, totals};
+ghost use Rattle.matcher_spec.specs.Energy.{allEnergies, bandsOf, reduced, wholeEnergies};
 ghost use Rattle.matcher_spec.specs.Index.{lentBands, lentMatcher};
 ghost use Rattle.matcher_spec.specs.Centring.{wideHop};
 ghost use Rattle.matcher_spec.specs.Peaks.{peaks};
 ghost use Rattle.matcher_spec.specs.Scores.{correlations};
-ghost use Rattle.matcher_spec.specs.Search.{FilledQuery, candidateIn, candidateOf, candidatesAt, clamped, coarseScores, fraction, localFound, localSearch, queryValues, searchable, separation, vertex, wholeFound, wholeSearch, windowOf};
+ghost use Rattle.matcher_spec.specs.Search.{FilledQuery, candidateIn, candidateOf, candidatesAt, clamped, coarseScores, fraction, localFound, localSearch, queryValues, searchable, separation, vertex, wholeFound, wholeSearch};
+ghost use Rattle.matcher_spec.specs.Features.{features};
 use matcher_bands::centring::centre_bands;
 use matcher_bands::centring::radius;
 use matcher_bands::counts::largest;
@@ -54,7 +55,7 @@ pub fn fill_query(
 ) -> bool
     requires { ⌜ wideHop (reference .«hop_ms») ≡ true ⌝ ∗ ⌜ 0 < reference .bands ⌝ }
     requires { ⌜ length (now values) ≡ bands * length (now times) ⌝ ∗ ⌜ 2 * (bands * length (now times)) ≤ length (now work32) ⌝ ∗ ⌜ 3 * (bands * (length (now times) + 1)) + reference .frames ≤ length (now work64) ⌝ }
-    ensures { λ r. ⌜ FilledQuery reference (windowOf bands (now (times .entry)) (now (values .entry))) r (now (work32 .exit)) (now (work64 .exit)) ⌝ }
+    ensures { λ r. ⌜ FilledQuery reference (features bands (now (times .entry)) (now (values .entry))) r (now (work32 .exit)) (now (work64 .exit)) ⌝ }
 {
     if !is_searchable(reference, bands, times, values) {
         return false;
@@ -76,7 +77,7 @@ pub fn fill_query(
 pub fn local_found(
     filled: bool,
     fine: &[f32],
-    squares: &[f64],
+    energy: &[f64],
     reference: Reference,
     bands: usize,
     times: &[f64],
@@ -87,12 +88,12 @@ pub fn local_found(
     work64: &mut [f64],
 ) -> MatchResult
     requires { ⌜ wideHop (reference .«hop_ms») ≡ true ⌝ ∗ ⌜ 0 < reference .bands ⌝ ∗ ⌜ reference .bands ≤ 64 ⌝ ∗ ⌜ reference .frames ≤ 65535 ⌝ }
-    requires { ⌜ reference .bands * reference .frames ≤ length (now fine) ⌝ ∗ ⌜ reference .bands * (reference .frames + 1) ≤ length (now squares) ⌝ }
+    requires { ⌜ reference .bands * reference .frames ≤ length (now fine) ⌝ ∗ ⌜ reference .bands * (reference .frames + 1) ≤ length (now energy) ⌝ }
     requires { ⌜ 2 * (bands * length (now times)) ≤ length (now work32) ⌝ ∗ ⌜ 3 * (bands * (length (now times) + 1)) + reference .frames ≤ length (now work64) ⌝ }
-    requires { ⌜ FilledQuery reference (windowOf bands (now times) (now values)) filled (now work32) (now work64) ⌝ }
-    ensures { λ r. ⌜ r ≡ resultOf (localSearch reference (lentBands (reference .bands) (reference .frames) (now (fine .entry)) (now (squares .entry))) (windowOf bands (now (times .entry)) (now (values .entry))) lower upper) ⌝ }
+    requires { ⌜ FilledQuery reference (features bands (now times) (now values)) filled (now work32) (now work64) ⌝ }
+    ensures { λ r. ⌜ r ≡ resultOf (localSearch reference (lentBands (reference .bands) (reference .frames) (now (fine .entry)) (now (energy .entry))) (features bands (now (times .entry)) (now (values .entry))) lower upper) ⌝ }
     ensures { λ r. ⌜ r .count ≤ 8 ⌝ }
-    ensures { λ _. ⌜ FilledQuery reference (windowOf bands (now (times .entry)) (now (values .entry))) filled (now (work32 .entry)) (now (work64 .exit)) ⌝ }
+    ensures { λ _. ⌜ FilledQuery reference (features bands (now (times .entry)) (now (values .entry))) filled (now (work32 .entry)) (now (work64 .exit)) ⌝ }
 {
     if !filled {
         return nothing_found();
@@ -101,7 +102,7 @@ pub fn local_found(
     let n = times.len() - 2 * trimmed;
     local_candidates(
         fine,
-        squares,
+        energy,
         reference,
         times[trimmed],
         n,
@@ -118,8 +119,8 @@ pub fn whole_found(
     filled: bool,
     fine: &[f32],
     coarse: &[f32],
-    fine_squares: &[f64],
-    coarse_squares: &[f64],
+    fine_energy: &[f64],
+    coarse_energy: &[f64],
     reference: Reference,
     bands: usize,
     times: &[f64],
@@ -128,11 +129,11 @@ pub fn whole_found(
     work64: &mut [f64],
 ) -> MatchResult
     requires { ⌜ wideHop (reference .«hop_ms») ≡ true ⌝ ∗ ⌜ 0 < reference .bands ⌝ ∗ ⌜ reference .bands ≤ 64 ⌝ ∗ ⌜ reference .frames ≤ 65535 ⌝ }
-    requires { ⌜ reference .bands * reference .frames ≤ length (now fine) ⌝ ∗ ⌜ reference .bands * (reference .frames + 1) ≤ length (now «fine_squares») ⌝ }
-    requires { ⌜ reference .bands * (reference .frames / 4) ≤ length (now coarse) ⌝ ∗ ⌜ reference .bands * (reference .frames / 4 + 1) ≤ length (now «coarse_squares») ⌝ }
+    requires { ⌜ reference .bands * reference .frames ≤ length (now fine) ⌝ ∗ ⌜ reference .bands * (reference .frames + 1) ≤ length (now «fine_energy») ⌝ }
+    requires { ⌜ reference .bands * (reference .frames / 4) ≤ length (now coarse) ⌝ ∗ ⌜ reference .bands * (reference .frames / 4 + 1) ≤ length (now «coarse_energy») ⌝ }
     requires { ⌜ 2 * (bands * length (now times)) ≤ length (now work32) ⌝ ∗ ⌜ 3 * (bands * (length (now times) + 1)) + reference .frames ≤ length (now work64) ⌝ }
-    requires { ⌜ FilledQuery reference (windowOf bands (now times) (now values)) filled (now work32) (now work64) ⌝ }
-    ensures { λ r. ⌜ r ≡ resultOf (wholeSearch (lentMatcher reference (now (fine .entry)) (now (coarse .entry)) (now («fine_squares» .entry)) (now («coarse_squares» .entry))) (windowOf bands (now (times .entry)) (now (values .entry)))) ⌝ }
+    requires { ⌜ FilledQuery reference (features bands (now times) (now values)) filled (now work32) (now work64) ⌝ }
+    ensures { λ r. ⌜ r ≡ resultOf (wholeSearch (lentMatcher reference (now (fine .entry)) (now (coarse .entry)) (now («fine_energy» .entry)) (now («coarse_energy» .entry))) (features bands (now (times .entry)) (now (values .entry)))) ⌝ }
     ensures { λ r. ⌜ r .count ≤ 8 ⌝ }
 {
     if !filled {
@@ -143,8 +144,8 @@ pub fn whole_found(
     whole_candidates(
         fine,
         coarse,
-        fine_squares,
-        coarse_squares,
+        fine_energy,
+        coarse_energy,
         reference,
         times[trimmed],
         n,
@@ -159,8 +160,8 @@ pub fn whole_found(
 pub fn whole_search(
     fine: &[f32],
     coarse: &[f32],
-    fine_squares: &[f64],
-    coarse_squares: &[f64],
+    fine_energy: &[f64],
+    coarse_energy: &[f64],
     reference: Reference,
     bands: usize,
     times: &[f64],
@@ -169,18 +170,18 @@ pub fn whole_search(
     work64: &mut [f64],
 ) -> MatchResult
     requires { ⌜ wideHop (reference .«hop_ms») ≡ true ⌝ ∗ ⌜ 0 < reference .bands ⌝ ∗ ⌜ reference .bands ≤ 64 ⌝ ∗ ⌜ reference .frames ≤ 65535 ⌝ }
-    requires { ⌜ reference .bands * reference .frames ≤ length (now fine) ⌝ ∗ ⌜ reference .bands * (reference .frames + 1) ≤ length (now «fine_squares») ⌝ }
-    requires { ⌜ reference .bands * (reference .frames / 4) ≤ length (now coarse) ⌝ ∗ ⌜ reference .bands * (reference .frames / 4 + 1) ≤ length (now «coarse_squares») ⌝ }
+    requires { ⌜ reference .bands * reference .frames ≤ length (now fine) ⌝ ∗ ⌜ reference .bands * (reference .frames + 1) ≤ length (now «fine_energy») ⌝ }
+    requires { ⌜ reference .bands * (reference .frames / 4) ≤ length (now coarse) ⌝ ∗ ⌜ reference .bands * (reference .frames / 4 + 1) ≤ length (now «coarse_energy») ⌝ }
     requires { ⌜ length (now values) ≡ bands * length (now times) ⌝ ∗ ⌜ 2 * (bands * length (now times)) ≤ length (now work32) ⌝ ∗ ⌜ 3 * (bands * (length (now times) + 1)) + reference .frames ≤ length (now work64) ⌝ }
-    ensures { λ r. ⌜ r ≡ resultOf (wholeSearch (lentMatcher reference (now (fine .entry)) (now (coarse .entry)) (now («fine_squares» .entry)) (now («coarse_squares» .entry))) (windowOf bands (now (times .entry)) (now (values .entry)))) ⌝ }
+    ensures { λ r. ⌜ r ≡ resultOf (wholeSearch (lentMatcher reference (now (fine .entry)) (now (coarse .entry)) (now («fine_energy» .entry)) (now («coarse_energy» .entry))) (features bands (now (times .entry)) (now (values .entry)))) ⌝ }
 {
     let filled = fill_query(reference, bands, times, values, work32, work64);
     whole_found(
         filled,
         fine,
         coarse,
-        fine_squares,
-        coarse_squares,
+        fine_energy,
+        coarse_energy,
         reference,
         bands,
         times,
@@ -193,7 +194,7 @@ pub fn whole_search(
 // The best place with an offset from `lower` to `upper`, both included, for the same callers.
 pub fn local_search(
     fine: &[f32],
-    squares: &[f64],
+    energy: &[f64],
     reference: Reference,
     bands: usize,
     times: &[f64],
@@ -204,15 +205,15 @@ pub fn local_search(
     work64: &mut [f64],
 ) -> MatchResult
     requires { ⌜ wideHop (reference .«hop_ms») ≡ true ⌝ ∗ ⌜ 0 < reference .bands ⌝ ∗ ⌜ reference .bands ≤ 64 ⌝ ∗ ⌜ reference .frames ≤ 65535 ⌝ }
-    requires { ⌜ reference .bands * reference .frames ≤ length (now fine) ⌝ ∗ ⌜ reference .bands * (reference .frames + 1) ≤ length (now squares) ⌝ }
+    requires { ⌜ reference .bands * reference .frames ≤ length (now fine) ⌝ ∗ ⌜ reference .bands * (reference .frames + 1) ≤ length (now energy) ⌝ }
     requires { ⌜ length (now values) ≡ bands * length (now times) ⌝ ∗ ⌜ 2 * (bands * length (now times)) ≤ length (now work32) ⌝ ∗ ⌜ 3 * (bands * (length (now times) + 1)) + reference .frames ≤ length (now work64) ⌝ }
-    ensures { λ r. ⌜ r ≡ resultOf (localSearch reference (lentBands (reference .bands) (reference .frames) (now (fine .entry)) (now (squares .entry))) (windowOf bands (now (times .entry)) (now (values .entry))) lower upper) ⌝ }
+    ensures { λ r. ⌜ r ≡ resultOf (localSearch reference (lentBands (reference .bands) (reference .frames) (now (fine .entry)) (now (energy .entry))) (features bands (now (times .entry)) (now (values .entry))) lower upper) ⌝ }
 {
     let filled = fill_query(reference, bands, times, values, work32, work64);
     local_found(
         filled,
         fine,
-        squares,
+        energy,
         reference,
         bands,
         times,
@@ -227,7 +228,7 @@ pub fn local_search(
 // Whether a search begins.
 fn is_searchable(reference: Reference, bands: usize, times: &[f64], values: &[f32]) -> bool
     requires { ⌜ wideHop (reference .«hop_ms») ≡ true ⌝ }
-    ensures { λ r. ⌜ r ≡ searchable reference (windowOf bands (now (times .entry)) (now (values .entry))) ⌝ }
+    ensures { λ r. ⌜ r ≡ searchable reference (features bands (now (times .entry)) (now (values .entry))) ⌝ }
 {
     let margin = 2 * radius(reference.hop_ms);
     let frames = times.len();
@@ -236,27 +237,27 @@ fn is_searchable(reference: Reference, bands: usize, times: &[f64], values: &[f3
             & (are_valid(values) & (less(frames, margin) <= reference.frames)))
 }
 
-// Centres the window's bands at the front of `query`, and sums their squares at the front of
-// `squares`.
+// Centres the window's bands at the front of `query`, and sums up their energies at the front of
+// `energy`.
 fn centre_query(
     query: &mut [f32],
-    squares: &mut [f64],
+    energy: &mut [f64],
     values: &[f32],
     bands: usize,
     frames: usize,
     radius: usize,
 )
     requires { ⌜ 0 < bands ⌝ ∗ ⌜ 2 * radius < frames ⌝ ∗ ⌜ radius ≤ 250 ⌝ ∗ ⌜ bands * frames ≤ length (now values) ⌝ }
-    requires { ⌜ bands * frames ≤ length (now query) ⌝ ∗ ⌜ bands * (frames + 1) ≤ length (now squares) ⌝ }
+    requires { ⌜ bands * frames ≤ length (now query) ⌝ ∗ ⌜ bands * (frames + 1) ≤ length (now energy) ⌝ }
     ensures { λ _. ⌜ take (bands * (frames - 2 * radius)) (now (query .exit)) ≡ queryValues radius bands frames (now (values .entry)) ⌝ }
-    ensures { λ _. ⌜ take (bands * (frames - 2 * radius + 1)) (now (squares .exit)) ≡ allEnergies bands (frames - 2 * radius) (queryValues radius bands frames (now (values .entry))) ⌝ }
+    ensures { λ _. ⌜ take (bands * (frames - 2 * radius + 1)) (now (energy .exit)) ≡ allEnergies bands (frames - 2 * radius) (queryValues radius bands frames (now (values .entry))) ⌝ }
 {
     let room = frames + 1;
     let n = frames - 2 * radius;
     let end = bands * n;
     centre_bands(
         query,
-        &mut squares[..room],
+        &mut energy[..room],
         values,
         bands,
         frames,
@@ -264,14 +265,14 @@ fn centre_query(
         radius,
         n,
     );
-    fill_energies(squares, &query[..end], bands, n);
+    fill_energies(energy, &query[..end], bands, n);
 }
 
 // The best place with an offset from `lower` to `upper` for the query that stands at the fronts of
 // the working buffers, where it stays.
 fn local_candidates(
     fine: &[f32],
-    squares: &[f64],
+    energy: &[f64],
     reference: Reference,
     start: f64,
     n: usize,
@@ -281,9 +282,9 @@ fn local_candidates(
     work64: &mut [f64],
 ) -> MatchResult
     requires { ⌜ reference .bands ≤ 64 ⌝ ∗ ⌜ 0 < n ⌝ ∗ ⌜ n ≤ reference .frames ⌝ ∗ ⌜ reference .frames ≤ 65535 ⌝ }
-    requires { ⌜ reference .bands * reference .frames ≤ length (now fine) ⌝ ∗ ⌜ reference .bands * (reference .frames + 1) ≤ length (now squares) ⌝ }
+    requires { ⌜ reference .bands * reference .frames ≤ length (now fine) ⌝ ∗ ⌜ reference .bands * (reference .frames + 1) ≤ length (now energy) ⌝ }
     requires { ⌜ reference .bands * n ≤ length (now work32) ⌝ ∗ ⌜ reference .bands * (n + 1) + reference .frames ≤ length (now work64) ⌝ }
-    ensures { λ r. ⌜ r ≡ resultOf (localFound reference (lentBands (reference .bands) (reference .frames) (now (fine .entry)) (now (squares .entry))) (lentBands (reference .bands) n (now (work32 .entry)) (now (work64 .entry))) start lower upper) ⌝ }
+    ensures { λ r. ⌜ r ≡ resultOf (localFound reference (lentBands (reference .bands) (reference .frames) (now (fine .entry)) (now (energy .entry))) (lentBands (reference .bands) n (now (work32 .entry)) (now (work64 .entry))) start lower upper) ⌝ }
     ensures { λ _. ⌜ lentBands (reference .bands) n (now (work32 .entry)) (now (work64 .exit)) ≡ lentBands (reference .bands) n (now (work32 .entry)) (now (work64 .entry)) ⌝ }
 {
     let last = reference.frames - n;
@@ -298,7 +299,7 @@ fn local_candidates(
     if is_finite(lower) & (is_finite(upper) & ((lower <= upper) & (low <= high))) {
         let c = query_candidate(
             fine,
-            squares,
+            energy,
             reference,
             start,
             n,
@@ -316,7 +317,7 @@ fn local_candidates(
 // working buffers, where it stays.
 fn query_candidate(
     fine: &[f32],
-    squares: &[f64],
+    energy: &[f64],
     reference: Reference,
     start: f64,
     n: usize,
@@ -326,9 +327,9 @@ fn query_candidate(
     work64: &mut [f64],
 ) -> Candidate
     requires { ⌜ reference .bands ≤ 64 ⌝ ∗ ⌜ 0 < n ⌝ ∗ ⌜ low ≤ high ⌝ ∗ ⌜ high + n ≤ reference .frames ⌝ ∗ ⌜ reference .frames ≤ 65535 ⌝ }
-    requires { ⌜ reference .bands * reference .frames ≤ length (now fine) ⌝ ∗ ⌜ reference .bands * (reference .frames + 1) ≤ length (now squares) ⌝ }
+    requires { ⌜ reference .bands * reference .frames ≤ length (now fine) ⌝ ∗ ⌜ reference .bands * (reference .frames + 1) ≤ length (now energy) ⌝ }
     requires { ⌜ reference .bands * n ≤ length (now work32) ⌝ ∗ ⌜ reference .bands * (n + 1) + reference .frames ≤ length (now work64) ⌝ }
-    ensures { λ r. ⌜ r ≡ candidateIn reference (lentBands (reference .bands) (reference .frames) (now (fine .entry)) (now (squares .entry))) (lentBands (reference .bands) n (now (work32 .entry)) (now (work64 .entry))) start low high ⌝ }
+    ensures { λ r. ⌜ r ≡ candidateIn reference (lentBands (reference .bands) (reference .frames) (now (fine .entry)) (now (energy .entry))) (lentBands (reference .bands) n (now (work32 .entry)) (now (work64 .entry))) start low high ⌝ }
     ensures { λ _. ⌜ lentBands (reference .bands) n (now (work32 .entry)) (now (work64 .exit)) ≡ lentBands (reference .bands) n (now (work32 .entry)) (now (work64 .entry)) ⌝ }
 {
     let bands = reference.bands;
@@ -338,7 +339,7 @@ fn query_candidate(
     let energies_end = bands * (n + 1);
     best_candidate(
         &fine[..end],
-        &squares[..stop],
+        &energy[..stop],
         reference,
         &work32[..query_end],
         start,
@@ -354,7 +355,7 @@ fn query_candidate(
 // scores are worked out from `at` on, and what stands before stays.
 fn best_candidate(
     fine: &[f32],
-    squares: &[f64],
+    energy: &[f64],
     reference: Reference,
     query: &[f32],
     start: f64,
@@ -365,9 +366,9 @@ fn best_candidate(
     high: usize,
 ) -> Candidate
     requires { ⌜ reference .bands ≤ 64 ⌝ ∗ ⌜ low ≤ high ⌝ ∗ ⌜ high + n ≤ reference .frames ⌝ ∗ ⌜ reference .frames ≤ 65535 ⌝ }
-    requires { ⌜ reference .bands * reference .frames ≤ length (now fine) ⌝ ∗ ⌜ reference .bands * (reference .frames + 1) ≤ length (now squares) ⌝ }
+    requires { ⌜ reference .bands * reference .frames ≤ length (now fine) ⌝ ∗ ⌜ reference .bands * (reference .frames + 1) ≤ length (now energy) ⌝ }
     requires { ⌜ reference .bands * n ≤ length (now query) ⌝ ∗ ⌜ reference .bands * (n + 1) ≤ at ⌝ ∗ ⌜ at + reference .frames ≤ length (now work) ⌝ ∗ ⌜ 0 < n ⌝ }
-    ensures { λ r. ⌜ r ≡ candidateIn reference (bandsOf (reference .frames) (now (fine .entry)) (now (squares .entry))) (bandsOf n (now (query .entry)) (take (reference .bands * (n + 1)) (now (work .entry)))) start low high ⌝ }
+    ensures { λ r. ⌜ r ≡ candidateIn reference (bandsOf (reference .frames) (now (fine .entry)) (now (energy .entry))) (bandsOf n (now (query .entry)) (take (reference .bands * (n + 1)) (now (work .entry)))) start low high ⌝ }
     ensures { λ _. ⌜ take at (now (work .exit)) ≡ take at (now (work .entry)) ⌝ }
 {
     let front = reference.bands * (n + 1);
@@ -375,7 +376,7 @@ fn best_candidate(
     let end = at + places;
     score_places(
         fine,
-        squares,
+        energy,
         reference.frames,
         query,
         n,
@@ -388,7 +389,7 @@ fn best_candidate(
     );
     candidate_of(
         fine,
-        squares,
+        energy,
         reference,
         query,
         &work[0..front],
@@ -403,7 +404,7 @@ fn best_candidate(
 // stays. `work` has the query's energies from `from` on.
 fn score_places(
     reference: &[f32],
-    squares: &[f64],
+    energy: &[f64],
     frames: usize,
     query: &[f32],
     n: usize,
@@ -415,21 +416,21 @@ fn score_places(
     places: usize,
 )
     requires { ⌜ bands ≤ 64 ⌝ ∗ ⌜ frames ≤ 65535 ⌝ ∗ ⌜ low + places + n ≤ frames + 1 ⌝ }
-    requires { ⌜ bands * frames ≤ length (now reference) ⌝ ∗ ⌜ bands * (frames + 1) ≤ length (now squares) ⌝ }
+    requires { ⌜ bands * frames ≤ length (now reference) ⌝ ∗ ⌜ bands * (frames + 1) ≤ length (now energy) ⌝ }
     requires { ⌜ bands * n ≤ length (now query) ⌝ ∗ ⌜ from + bands * (n + 1) ≤ at ⌝ ∗ ⌜ at + places ≤ length (now work) ⌝ }
-    ensures { λ _. ⌜ take places (drop at (now (work .exit))) ≡ correlations bands (bandsOf frames (now (reference .entry)) (now (squares .entry))) n (now (query .entry)) (totals bands (bandsOf n [] (take (bands * (n + 1)) (drop from (now (work .entry)))))) low places ⌝ }
+    ensures { λ _. ⌜ take places (drop at (now (work .exit))) ≡ correlations bands (bandsOf frames (now (reference .entry)) (now (energy .entry))) n (now (query .entry)) (wholeEnergies bands (bandsOf n [] (take (bands * (n + 1)) (drop from (now (work .entry)))))) low places ⌝ }
     ensures { λ _. ⌜ take at (now (work .exit)) ≡ take at (now (work .entry)) ⌝ }
 {
     let past = from + bands * (n + 1);
     let end = at + places;
-    let wholes = whole_energies(&work[from..past], bands, n);
+    let whole = whole_energies(&work[from..past], bands, n);
     correlations(
         &mut work[at..end],
         reference,
-        squares,
+        energy,
         frames,
         query,
-        &wholes[..bands],
+        &whole[..bands],
         n,
         bands,
         low,
@@ -439,19 +440,19 @@ fn score_places(
 // The candidate of the places from `low` on that score so.
 fn candidate_of(
     fine: &[f32],
-    squares: &[f64],
+    energy: &[f64],
     reference: Reference,
     query: &[f32],
-    query_squares: &[f64],
+    query_energy: &[f64],
     start: f64,
     n: usize,
     scores: &[f64],
     low: usize,
 ) -> Candidate
     requires { ⌜ 0 < length (now scores) ⌝ ∗ ⌜ low + length (now scores) + n ≤ reference .frames + 1 ⌝ }
-    requires { ⌜ reference .bands * reference .frames ≤ length (now fine) ⌝ ∗ ⌜ reference .bands * (reference .frames + 1) ≤ length (now squares) ⌝ }
-    requires { ⌜ reference .bands * n ≤ length (now query) ⌝ ∗ ⌜ reference .bands * (n + 1) ≤ length (now «query_squares») ⌝ }
-    ensures { λ r. ⌜ r ≡ candidateOf reference (bandsOf (reference .frames) (now (fine .entry)) (now (squares .entry))) (bandsOf n (now (query .entry)) (now («query_squares» .entry))) start low (now (scores .entry)) ⌝ }
+    requires { ⌜ reference .bands * reference .frames ≤ length (now fine) ⌝ ∗ ⌜ reference .bands * (reference .frames + 1) ≤ length (now energy) ⌝ }
+    requires { ⌜ reference .bands * n ≤ length (now query) ⌝ ∗ ⌜ reference .bands * (n + 1) ≤ length (now «query_energy») ⌝ }
+    ensures { λ r. ⌜ r ≡ candidateOf reference (bandsOf (reference .frames) (now (fine .entry)) (now (energy .entry))) (bandsOf n (now (query .entry)) (now («query_energy» .entry))) start low (now (scores .entry)) ⌝ }
 {
     let bands = reference.bands;
     let frames = reference.frames;
@@ -465,10 +466,10 @@ fn candidate_of(
         score: scores[peak],
         first_half_score: score_part(
             fine,
-            squares,
+            energy,
             frames,
             query,
-            query_squares,
+            query_energy,
             n,
             bands,
             index,
@@ -477,10 +478,10 @@ fn candidate_of(
         ),
         second_half_score: score_part(
             fine,
-            squares,
+            energy,
             frames,
             query,
-            query_squares,
+            query_energy,
             n,
             bands,
             index,
@@ -489,10 +490,10 @@ fn candidate_of(
         ),
         recent_score: score_part(
             fine,
-            squares,
+            energy,
             frames,
             query,
-            query_squares,
+            query_energy,
             n,
             bands,
             index,
@@ -541,8 +542,8 @@ fn clamp(x: f64) -> f64
 fn whole_candidates(
     fine: &[f32],
     coarse: &[f32],
-    fine_squares: &[f64],
-    coarse_squares: &[f64],
+    fine_energy: &[f64],
+    coarse_energy: &[f64],
     reference: Reference,
     start: f64,
     n: usize,
@@ -550,10 +551,10 @@ fn whole_candidates(
     work64: &mut [f64],
 ) -> MatchResult
     requires { ⌜ reference .bands ≤ 64 ⌝ ∗ ⌜ 0 < n ⌝ ∗ ⌜ n ≤ reference .frames ⌝ ∗ ⌜ reference .frames ≤ 65535 ⌝ }
-    requires { ⌜ reference .bands * reference .frames ≤ length (now fine) ⌝ ∗ ⌜ reference .bands * (reference .frames + 1) ≤ length (now «fine_squares») ⌝ }
-    requires { ⌜ reference .bands * (reference .frames / 4) ≤ length (now coarse) ⌝ ∗ ⌜ reference .bands * (reference .frames / 4 + 1) ≤ length (now «coarse_squares») ⌝ }
+    requires { ⌜ reference .bands * reference .frames ≤ length (now fine) ⌝ ∗ ⌜ reference .bands * (reference .frames + 1) ≤ length (now «fine_energy») ⌝ }
+    requires { ⌜ reference .bands * (reference .frames / 4) ≤ length (now coarse) ⌝ ∗ ⌜ reference .bands * (reference .frames / 4 + 1) ≤ length (now «coarse_energy») ⌝ }
     requires { ⌜ 2 * (reference .bands * n) ≤ length (now work32) ⌝ ∗ ⌜ 2 * (reference .bands * (n + 1)) + reference .frames ≤ length (now work64) ⌝ }
-    ensures { λ r. ⌜ r ≡ resultOf (wholeFound (lentMatcher reference (now (fine .entry)) (now (coarse .entry)) (now («fine_squares» .entry)) (now («coarse_squares» .entry))) (lentBands (reference .bands) n (now (work32 .entry)) (now (work64 .entry))) start) ⌝ }
+    ensures { λ r. ⌜ r ≡ resultOf (wholeFound (lentMatcher reference (now (fine .entry)) (now (coarse .entry)) (now («fine_energy» .entry)) (now («coarse_energy» .entry))) (lentBands (reference .bands) n (now (work32 .entry)) (now (work64 .entry))) start) ⌝ }
     ensures { λ r. ⌜ r .count ≤ 8 ⌝ }
 {
     let bands = reference.bands;
@@ -561,10 +562,10 @@ fn whole_candidates(
     let stop = bands * (reference.frames + 1);
     let query_end = bands * n;
     let at = bands * (n + 1);
-    let picked = query_peaks(coarse, coarse_squares, reference, n, work32, work64);
+    let picked = query_peaks(coarse, coarse_energy, reference, n, work32, work64);
     let found = candidates_around(
         &fine[..end],
-        &fine_squares[..stop],
+        &fine_energy[..stop],
         reference,
         &work32[..query_end],
         start,
@@ -580,17 +581,17 @@ fn whole_candidates(
 // where it stays.
 fn query_peaks(
     coarse: &[f32],
-    squares: &[f64],
+    energy: &[f64],
     reference: Reference,
     n: usize,
     work32: &mut [f32],
     work64: &mut [f64],
 ) -> Picked
     requires { ⌜ reference .bands ≤ 64 ⌝ ∗ ⌜ 0 < n ⌝ ∗ ⌜ n ≤ reference .frames ⌝ ∗ ⌜ reference .frames ≤ 65535 ⌝ }
-    requires { ⌜ reference .bands * (reference .frames / 4) ≤ length (now coarse) ⌝ ∗ ⌜ reference .bands * (reference .frames / 4 + 1) ≤ length (now squares) ⌝ }
+    requires { ⌜ reference .bands * (reference .frames / 4) ≤ length (now coarse) ⌝ ∗ ⌜ reference .bands * (reference .frames / 4 + 1) ≤ length (now energy) ⌝ }
     requires { ⌜ 2 * (reference .bands * n) ≤ length (now work32) ⌝ ∗ ⌜ 2 * (reference .bands * (n + 1)) + reference .frames ≤ length (now work64) ⌝ }
     ensures { λ r. ⌜ r .count ≤ 8 ⌝ }
-    ensures { λ r. ⌜ take (r .count) (r .at) ≡ peaks (coarseScores (reference .bands) (lentBands (reference .bands) (reference .frames / 4) (now (coarse .entry)) (now (squares .entry))) (lentBands (reference .bands) n (now (work32 .entry)) (now (work64 .entry)))) (separation (reference .«hop_ms»)) ⌝ }
+    ensures { λ r. ⌜ take (r .count) (r .at) ≡ peaks (coarseScores (reference .bands) (lentBands (reference .bands) (reference .frames / 4) (now (coarse .entry)) (now (energy .entry))) (lentBands (reference .bands) n (now (work32 .entry)) (now (work64 .entry)))) (separation (reference .«hop_ms»)) ⌝ }
     ensures { λ r. ⌜ ((k : ℕ) → getD (r .at) k 0 ≤ 65536) ⌝ }
     ensures { λ _. ⌜ lentBands (reference .bands) n (now (work32 .exit)) (now (work64 .exit)) ≡ lentBands (reference .bands) n (now (work32 .entry)) (now (work64 .entry)) ⌝ }
 {
@@ -602,7 +603,7 @@ fn query_peaks(
     let at = bands * (n + 1);
     coarse_peaks(
         &coarse[..end],
-        &squares[..stop],
+        &energy[..stop],
         reference,
         work32,
         work64,
@@ -617,7 +618,7 @@ fn query_peaks(
 // `work`, and what stands before stays.
 fn coarse_peaks(
     coarse: &[f32],
-    squares: &[f64],
+    energy: &[f64],
     reference: Reference,
     query: &mut [f32],
     work: &mut [f64],
@@ -626,10 +627,10 @@ fn coarse_peaks(
     at: usize,
 ) -> Picked
     requires { ⌜ reference .bands ≤ 64 ⌝ ∗ ⌜ 0 < n ⌝ ∗ ⌜ n ≤ reference .frames ⌝ ∗ ⌜ reference .frames ≤ 65535 ⌝ }
-    requires { ⌜ reference .bands * (reference .frames / 4) ≤ length (now coarse) ⌝ ∗ ⌜ reference .bands * (reference .frames / 4 + 1) ≤ length (now squares) ⌝ }
+    requires { ⌜ reference .bands * (reference .frames / 4) ≤ length (now coarse) ⌝ ∗ ⌜ reference .bands * (reference .frames / 4 + 1) ≤ length (now energy) ⌝ }
     requires { ⌜ reference .bands * n ≤ from ⌝ ∗ ⌜ from + reference .bands * (n / 4) ≤ length (now query) ⌝ ∗ ⌜ at + reference .bands * (n / 4 + 1) + reference .frames ≤ length (now work) ⌝ }
     ensures { λ r. ⌜ r .count ≤ 8 ⌝ }
-    ensures { λ r. ⌜ take (r .count) (r .at) ≡ peaks (coarseScores (reference .bands) (bandsOf (reference .frames / 4) (now (coarse .entry)) (now (squares .entry))) (bandsOf n (take (reference .bands * n) (now (query .entry))) [])) (separation (reference .«hop_ms»)) ⌝ }
+    ensures { λ r. ⌜ take (r .count) (r .at) ≡ peaks (coarseScores (reference .bands) (bandsOf (reference .frames / 4) (now (coarse .entry)) (now (energy .entry))) (bandsOf n (take (reference .bands * n) (now (query .entry))) [])) (separation (reference .«hop_ms»)) ⌝ }
     ensures { λ r. ⌜ ((k : ℕ) → getD (r .at) k 0 ≤ 65536) ⌝ }
     ensures { λ _. ⌜ take from (now (query .exit)) ≡ take from (now (query .entry)) ⌝ }
     ensures { λ _. ⌜ take at (now (work .exit)) ≡ take at (now (work .entry)) ⌝ }
@@ -644,7 +645,7 @@ fn coarse_peaks(
     reduce_query(query, work, bands, n, from, at);
     score_places(
         coarse,
-        squares,
+        energy,
         coarse_frames,
         &query[from..to],
         size,
@@ -658,12 +659,12 @@ fn coarse_peaks(
     pick_peaks(&work[start..end], peak_separation(reference.hop_ms))
 }
 
-// Averages the query's bands by fours from `from` on in `query`, and sums the averages' squares from
+// Averages the query's bands by fours from `from` on in `query`, and sums up their energies from
 // `at` on in `work`; what stands before stays.
 fn reduce_query(query: &mut [f32], work: &mut [f64], bands: usize, n: usize, from: usize, at: usize)
     requires { ⌜ bands * n ≤ from ⌝ ∗ ⌜ from + bands * (n / 4) ≤ length (now query) ⌝ ∗ ⌜ at + bands * (n / 4 + 1) ≤ length (now work) ⌝ }
     ensures { λ _. ⌜ take (bands * (n / 4)) (drop from (now (query .exit))) ≡ reduced bands (bandsOf n (take (bands * n) (now (query .entry))) []) .values ⌝ }
-    ensures { λ _. ⌜ take (bands * (n / 4 + 1)) (drop at (now (work .exit))) ≡ reduced bands (bandsOf n (take (bands * n) (now (query .entry))) []) .squares ⌝ }
+    ensures { λ _. ⌜ take (bands * (n / 4 + 1)) (drop at (now (work .exit))) ≡ reduced bands (bandsOf n (take (bands * n) (now (query .entry))) []) .energy ⌝ }
     ensures { λ _. ⌜ take from (now (query .exit)) ≡ take from (now (query .entry)) ⌝ }
     ensures { λ _. ⌜ take at (now (work .exit)) ≡ take at (now (work .entry)) ⌝ }
 {
@@ -684,7 +685,7 @@ fn peak_separation(hop: f64) -> usize
 // The candidates around the peaks, the best first. `work` has the query's energies at its front.
 fn candidates_around(
     fine: &[f32],
-    squares: &[f64],
+    energy: &[f64],
     reference: Reference,
     query: &[f32],
     start: f64,
@@ -694,11 +695,11 @@ fn candidates_around(
     picked: Picked,
 ) -> MatchResult
     requires { ⌜ reference .bands ≤ 64 ⌝ ∗ ⌜ n ≤ reference .frames ⌝ ∗ ⌜ reference .frames ≤ 65535 ⌝ ∗ ⌜ picked .count ≤ 8 ⌝ }
-    requires { ⌜ reference .bands * reference .frames ≤ length (now fine) ⌝ ∗ ⌜ reference .bands * (reference .frames + 1) ≤ length (now squares) ⌝ }
+    requires { ⌜ reference .bands * reference .frames ≤ length (now fine) ⌝ ∗ ⌜ reference .bands * (reference .frames + 1) ≤ length (now energy) ⌝ }
     requires { ⌜ reference .bands * n ≤ length (now query) ⌝ ∗ ⌜ reference .bands * (n + 1) ≤ at ⌝ ∗ ⌜ at + reference .frames ≤ length (now work) ⌝ ∗ ⌜ 0 < n ⌝ }
     requires { ⌜ ((k : ℕ) → getD (picked .at) k 0 ≤ 65536) ⌝ }
     ensures { λ r. ⌜ r .count ≤ 8 ⌝ }
-    ensures { λ r. ⌜ listed r ≡ sorted (candidatesAt reference (bandsOf (reference .frames) (now (fine .entry)) (now (squares .entry))) (bandsOf n (now (query .entry)) (take (reference .bands * (n + 1)) (now (work .entry)))) start (take (picked .count) (picked .at))) ⌝ }
+    ensures { λ r. ⌜ listed r ≡ sorted (candidatesAt reference (bandsOf (reference .frames) (now (fine .entry)) (now (energy .entry))) (bandsOf n (now (query .entry)) (take (reference .bands * (n + 1)) (now (work .entry)))) start (take (picked .count) (picked .at))) ⌝ }
 {
     let peaks = picked.at;
     let limit = picked.count;
@@ -708,7 +709,7 @@ fn candidates_around(
         found = with_candidate(
             found,
             fine,
-            squares,
+            energy,
             reference,
             query,
             start,
@@ -727,7 +728,7 @@ fn candidates_around(
 fn with_candidate(
     found: MatchResult,
     fine: &[f32],
-    squares: &[f64],
+    energy: &[f64],
     reference: Reference,
     query: &[f32],
     start: f64,
@@ -737,10 +738,10 @@ fn with_candidate(
     peak: usize,
 ) -> MatchResult
     requires { ⌜ found .count < 8 ⌝ ∗ ⌜ peak ≤ 65536 ⌝ ∗ ⌜ reference .bands ≤ 64 ⌝ ∗ ⌜ n ≤ reference .frames ⌝ ∗ ⌜ reference .frames ≤ 65535 ⌝ }
-    requires { ⌜ reference .bands * reference .frames ≤ length (now fine) ⌝ ∗ ⌜ reference .bands * (reference .frames + 1) ≤ length (now squares) ⌝ }
+    requires { ⌜ reference .bands * reference .frames ≤ length (now fine) ⌝ ∗ ⌜ reference .bands * (reference .frames + 1) ≤ length (now energy) ⌝ }
     requires { ⌜ reference .bands * n ≤ length (now query) ⌝ ∗ ⌜ reference .bands * (n + 1) ≤ at ⌝ ∗ ⌜ at + reference .frames ≤ length (now work) ⌝ ∗ ⌜ 0 < n ⌝ }
     ensures { λ r. ⌜ r .count ≤ found .count + 1 ⌝ }
-    ensures { λ r. ⌜ listed r ≡ sortInto (listed found) (candidatesAt reference (bandsOf (reference .frames) (now (fine .entry)) (now (squares .entry))) (bandsOf n (now (query .entry)) (take (reference .bands * (n + 1)) (now (work .entry)))) start (peak ∷ [])) ⌝ }
+    ensures { λ r. ⌜ listed r ≡ sortInto (listed found) (candidatesAt reference (bandsOf (reference .frames) (now (fine .entry)) (now (energy .entry))) (bandsOf n (now (query .entry)) (take (reference .bands * (n + 1)) (now (work .entry)))) start (peak ∷ [])) ⌝ }
     ensures { λ _. ⌜ take at (now (work .exit)) ≡ take at (now (work .entry)) ⌝ }
 {
     let centre = peak * 4;
@@ -749,7 +750,7 @@ fn with_candidate(
     if low <= high {
         let c = best_candidate(
             fine,
-            squares,
+            energy,
             reference,
             query,
             start,

@@ -3,7 +3,7 @@ ghost use Prim.Native.Nat.{_+_, _*_, _/_, _<_, _≤_};
 ghost use lib.ListN.{drop, length, take};
 ghost use mathlib.Core.List.{[], _++_};
 ghost use mathlib.Core.Path.{_≡_};
-ghost use Rattle.matcher_spec.specs.Energy.{allAverages, allEnergies, average, averages, bandsOf, energies, totals};
+ghost use Rattle.matcher_spec.specs.Energy.{allAverages, allEnergies, average, averages, bandsOf, energies, wholeEnergies};
 ghost use Rattle.numbers_spec.specs.Rows.{row};
 use numbers::float::widen;
 
@@ -25,9 +25,9 @@ fn fill_energy(row: &mut [f64], values: &[f32])
 }
 
 // Fills each band's row in its own stretch of the slice; what is past the last stays.
-pub fn fill_energies(squares: &mut [f64], values: &[f32], bands: usize, n: usize)
-    requires { ⌜ bands * n ≤ length (now values) ⌝ ∗ ⌜ bands * (n + 1) ≤ length (now squares) ⌝ }
-    ensures { λ _. ⌜ now (squares .exit) ≡ allEnergies bands n (now (values .entry)) ++ drop (bands * (n + 1)) (now (squares .entry)) ⌝ }
+pub fn fill_energies(energy: &mut [f64], values: &[f32], bands: usize, n: usize)
+    requires { ⌜ bands * n ≤ length (now values) ⌝ ∗ ⌜ bands * (n + 1) ≤ length (now energy) ⌝ }
+    ensures { λ _. ⌜ now (energy .exit) ≡ allEnergies bands n (now (values .entry)) ++ drop (bands * (n + 1)) (now (energy .entry)) ⌝ }
 {
     let mut b = 0usize;
     while b < bands {
@@ -35,24 +35,24 @@ pub fn fill_energies(squares: &mut [f64], values: &[f32], bands: usize, n: usize
         let to = from + n;
         let at = b * (n + 1);
         let end = at + (n + 1);
-        fill_energy(&mut squares[at..end], &values[from..to]);
+        fill_energy(&mut energy[at..end], &values[from..to]);
         b += 1;
     }
 }
 
 // Each band's whole energy; 0.0 past the last band.
-pub fn whole_energies(squares: &[f64], bands: usize, n: usize) -> [f64; 64]
-    requires { ⌜ bands ≤ 64 ⌝ ∗ ⌜ bands * (n + 1) ≤ length (now squares) ⌝ }
-    ensures { λ r. ⌜ take bands r ≡ totals bands (bandsOf n [] (now (squares .entry))) ⌝ }
+pub fn whole_energies(energy: &[f64], bands: usize, n: usize) -> [f64; 64]
+    requires { ⌜ bands ≤ 64 ⌝ ∗ ⌜ bands * (n + 1) ≤ length (now energy) ⌝ }
+    ensures { λ r. ⌜ take bands r ≡ wholeEnergies bands (bandsOf n [] (now (energy .entry))) ⌝ }
 {
-    let mut wholes = [0.0f64; 64];
+    let mut whole = [0.0f64; 64];
     let mut b = 0usize;
     while b < bands {
         let last = b * (n + 1) + n;
-        wholes[b] = squares[last];
+        whole[b] = energy[last];
         b += 1;
     }
-    wholes
+    whole
 }
 
 // The average of the four values from `at` on.

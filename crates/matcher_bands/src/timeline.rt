@@ -3,14 +3,14 @@ ghost use Prim.Native.Nat.{ℕ, suc, _-_, _<_};
 ghost use lib.ListN.{length};
 ghost use mathlib.Core.Path.{_≡_};
 ghost use Rattle.numbers_spec.specs.Rows.{allTo};
-ghost use Rattle.matcher_spec.specs.Timeline.{accepts, near, onTime, regular, validValue, validValues};
+ghost use Rattle.matcher_spec.specs.Timeline.{accepts, withinTolerance, onTime, regular, validValue, validValues};
 use numbers::float::abs;
 use numbers::float::is_finite;
 use numbers::float::real;
 
 // Whether a is off b by less than hop * 0.05.
-fn is_near(hop: f64, a: f64, b: f64) -> bool
-    ensures { λ r. ⌜ r ≡ near hop a b ⌝ }
+fn is_within_tolerance(hop: f64, a: f64, b: f64) -> bool
+    ensures { λ r. ⌜ r ≡ withinTolerance hop a b ⌝ }
 {
     abs(a - b) < hop * 0.05
 }
@@ -22,7 +22,8 @@ fn is_on_time(times: &[f64], hop: f64, i: usize) -> bool
 {
     let step = times[i] - times[i - 1];
     let expected = times[0] + real(i) * hop;
-    is_finite(step) & (is_near(hop, step, hop) & is_near(hop, times[i], expected))
+    is_finite(step)
+        & (is_within_tolerance(hop, step, hop) & is_within_tolerance(hop, times[i], expected))
 }
 
 // Whether each frame but the first is on time.

@@ -82,11 +82,11 @@ fn digest_of(result: MatchResult) -> u64 {
 fn digest_of_index(
     fine: &[f32],
     coarse: &[f32],
-    fine_squares: &[f64],
-    coarse_squares: &[f64],
+    fine_energy: &[f64],
+    coarse_energy: &[f64],
 ) -> u64 {
     let word = digest::with_all_f32(digest::with_all_f32(0, fine), coarse);
-    digest::with_all(digest::with_all(word, fine_squares), coarse_squares)
+    digest::with_all(digest::with_all(word, fine_energy), coarse_energy)
 }
 
 // What the matcher answers.
@@ -99,16 +99,16 @@ pub fn answers_to(case: Case) -> Answers
     let mut values = [0.0f32; 1600];
     let mut fine = [0.0f32; 1600];
     let mut coarse = [0.0f32; 400];
-    let mut fine_squares = [0.0f64; 1604];
-    let mut coarse_squares = [0.0f64; 404];
+    let mut fine_energy = [0.0f64; 1604];
+    let mut coarse_energy = [0.0f64; 404];
     answers_within(
         case,
         &mut times[..frames],
         &mut values[..size],
         &mut fine,
         &mut coarse,
-        &mut fine_squares,
-        &mut coarse_squares,
+        &mut fine_energy,
+        &mut coarse_energy,
     )
 }
 
@@ -119,20 +119,20 @@ fn answers_within(
     values: &mut [f32],
     fine: &mut [f32],
     coarse: &mut [f32],
-    fine_squares: &mut [f64],
-    coarse_squares: &mut [f64],
+    fine_energy: &mut [f64],
+    coarse_energy: &mut [f64],
 ) -> Answers
     requires { ⌜ isSmall case ≡ true ⌝ ∗ ⌜ length (now times) ≡ case .frames ⌝ ∗ ⌜ length (now values) ≡ case .bands * case .frames ⌝ }
     requires { ⌜ length (now fine) ≡ 1600 ⌝ ∗ ⌜ length (now coarse) ≡ 400 ⌝ }
-    requires { ⌜ length (now «fine_squares») ≡ 1604 ⌝ ∗ ⌜ length (now «coarse_squares») ≡ 404 ⌝ }
+    requires { ⌜ length (now «fine_energy») ≡ 1604 ⌝ ∗ ⌜ length (now «coarse_energy») ≡ 404 ⌝ }
 {
     sound::fill_times(times, 0.0, case.hop);
     sound::fill_reference(values, case.seed, case.period, case.frames);
     let filled = fill_index(
         fine,
         coarse,
-        fine_squares,
-        coarse_squares,
+        fine_energy,
+        coarse_energy,
         case.bands,
         case.hop,
         times,
@@ -141,7 +141,7 @@ fn answers_within(
     if !filled {
         return rejected();
     }
-    search_in(case, fine, coarse, fine_squares, coarse_squares)
+    search_in(case, fine, coarse, fine_energy, coarse_energy)
 }
 
 // The answers where the reference is rejected.
@@ -161,11 +161,11 @@ fn search_in(
     case: Case,
     fine: &[f32],
     coarse: &[f32],
-    fine_squares: &[f64],
-    coarse_squares: &[f64],
+    fine_energy: &[f64],
+    coarse_energy: &[f64],
 ) -> Answers
     requires { ⌜ isSmall case ≡ true ⌝ ∗ ⌜ length (now fine) ≡ 1600 ⌝ ∗ ⌜ length (now coarse) ≡ 400 ⌝ }
-    requires { ⌜ length (now «fine_squares») ≡ 1604 ⌝ ∗ ⌜ length (now «coarse_squares») ≡ 404 ⌝ }
+    requires { ⌜ length (now «fine_energy») ≡ 1604 ⌝ ∗ ⌜ length (now «coarse_energy») ≡ 404 ⌝ }
 {
     let window = case.window;
     let size = case.bands * window;
@@ -177,8 +177,8 @@ fn search_in(
         case,
         fine,
         coarse,
-        fine_squares,
-        coarse_squares,
+        fine_energy,
+        coarse_energy,
         &mut times[..window],
         &mut values[..size],
         &mut work32,
@@ -191,15 +191,15 @@ fn search_within(
     case: Case,
     fine: &[f32],
     coarse: &[f32],
-    fine_squares: &[f64],
-    coarse_squares: &[f64],
+    fine_energy: &[f64],
+    coarse_energy: &[f64],
     times: &mut [f64],
     values: &mut [f32],
     work32: &mut [f32],
     work64: &mut [f64],
 ) -> Answers
     requires { ⌜ isSmall case ≡ true ⌝ ∗ ⌜ length (now fine) ≡ 1600 ⌝ ∗ ⌜ length (now coarse) ≡ 400 ⌝ }
-    requires { ⌜ length (now «fine_squares») ≡ 1604 ⌝ ∗ ⌜ length (now «coarse_squares») ≡ 404 ⌝ }
+    requires { ⌜ length (now «fine_energy») ≡ 1604 ⌝ ∗ ⌜ length (now «coarse_energy») ≡ 404 ⌝ }
     requires { ⌜ length (now times) ≡ case .window ⌝ ∗ ⌜ length (now values) ≡ case .bands * case .window ⌝ }
     requires { ⌜ length (now work32) ≡ 960 ⌝ ∗ ⌜ length (now work64) ≡ 1852 ⌝ }
 {
@@ -214,8 +214,8 @@ fn search_within(
     let whole = whole_search(
         fine,
         coarse,
-        fine_squares,
-        coarse_squares,
+        fine_energy,
+        coarse_energy,
         reference,
         case.bands,
         times,
@@ -226,7 +226,7 @@ fn search_within(
     let offset = numbers::float::real(case.from) * case.hop - BEGIN;
     let local = local_search(
         fine,
-        fine_squares,
+        fine_energy,
         reference,
         case.bands,
         times,
@@ -238,7 +238,7 @@ fn search_within(
     );
     Answers {
         filled: 1,
-        index: digest_of_index(fine, coarse, fine_squares, coarse_squares),
+        index: digest_of_index(fine, coarse, fine_energy, coarse_energy),
         whole_count: whole.count as u64,
         whole: digest_of(whole),
         local_count: local.count as u64,

@@ -32,13 +32,13 @@ from-at : {A : Type 0} (l : List A) (at i : ℕ) (z : A) → getD (from l at) i 
 from-at l at i z = ap (λ (x : List _). getD x i z) (rest l at) ∙ getD-drop at l i z
 
 -- ---- a block
-module _ (reference squares query : List Float) (floor whole : Float) where
+module _ (reference energy query : List Float) (floor whole : Float) where
   -- the quotient of what the passes wrote is what the band adds
   pub quotient-is : (n k i : ℕ) {dotted products roots : List Float}
-      → products ≡ tabulate (λ (j : ℕ). whole ⊗ atLeast floor (getD squares (j + length query) nan ⊖ getD squares j nan)) k
+      → products ≡ tabulate (λ (j : ℕ). whole ⊗ atLeast floor (getD energy (j + length query) nan ⊖ getD energy j nan)) k
       → roots ≡ rootsOf products
       → dotted ≡ tabulate (λ (j : ℕ). dot (take (length query) (drop j reference)) query) n
-      → i < n → i < k → getD dotted i nan ⊘ getD roots i nan ≡ bandTerm reference squares query floor whole i
+      → i < n → i < k → getD dotted i nan ⊘ getD roots i nan ≡ bandTerm reference energy query floor whole i
   unfolding bandTerm
   quotient-is n k i {products = products} p q d hn hk =
       let size = row-length _ k p in
@@ -46,23 +46,23 @@ module _ (reference squares query : List Float) (floor whole : Float) where
       (λ j. row-at _ n i nan d hn j ⊘ root j)
 
   -- what the band adds, where reference and energies begin at the place `at`
-  term-from : (at i : ℕ) → bandTerm (from reference at) (from squares at) query floor whole i ≡ bandTerm reference squares query floor whole (at + i)
+  term-from : (at i : ℕ) → bandTerm (from reference at) (from energy at) query floor whole i ≡ bandTerm reference energy query floor whole (at + i)
   unfolding bandTerm
   term-from at i =
       let row = ap (drop i) (rest reference at) ∙ drop-drop i at reference in
-      let end = from-at squares at (i + length query) nan ∙ ap (λ (j : ℕ). getD squares j nan) (sym (add-assoc at i (length query))) in
-      (λ j. dot (take (length query) (row j)) query ⊘ rootOf (whole ⊗ atLeast floor (end j ⊖ from-at squares at i nan j)))
+      let end = from-at energy at (i + length query) nan ∙ ap (λ (j : ℕ). getD energy j nan) (sym (add-assoc at i (length query))) in
+      (λ j. dot (take (length query) (row j)) query ⊘ rootOf (whole ⊗ atLeast floor (end j ⊖ from-at energy at i nan j)))
 
   -- a score with the band's term added
   abbrev pub added : List Float → ℕ → ℕ → Float
-  added scores low j = getD scores j nan ⊕ bandTerm reference squares query floor whole (low + j)
+  added scores low j = getD scores j nan ⊕ bandTerm reference energy query floor whole (low + j)
 
   -- the next block was lent, and came back with the band's terms added
   pub block-more : (scores : List Float) (low i end : ℕ) {row part : List Float} → Filling (added scores low) scores i row
-      → part ≡ tabulate (λ (j : ℕ). getD (take (end - i) (drop i row)) j nan ⊕ bandTerm (from reference (low + i)) (from squares (low + i)) query floor whole j) (length (take (end - i) (drop i row)))
+      → part ≡ tabulate (λ (j : ℕ). getD (take (end - i) (drop i row)) j nan ⊕ bandTerm (from reference (low + i)) (from energy (low + i)) query floor whole j) (length (take (end - i) (drop i row)))
       → i ≤ end → end ≤ length scores → Filling (added scores low) scores end (putMid i (end - i) row part)
   block-more scores low i end {row} {part} p q h k =
-      let term : ℕ → Float = bandTerm reference squares query floor whole in
+      let term : ℕ → Float = bandTerm reference energy query floor whole in
       let each : part ≡ tabulate (λ (j : ℕ). added scores low (i + j)) (end - i) =
       q
       ∙ ap (tabulate _) (mid-len i end row (omega (arith, p .size)))

@@ -15,13 +15,13 @@ use numbers_rows::root_row::root_row;
 
 // What stands under the root at each place: the query's energy times the reference's over `count`
 // frames.
-fn fill_products(products: &mut [f64], squares: &[f64], count: usize, floor: f64, whole: f64)
-    requires { ⌜ length (now products) + count ≤ length (now squares) ⌝ }
-    ensures { λ _. ⌜ now (products .exit) ≡ tabulate (λ (i : ℕ). whole ⊗ atLeast floor (getD (now (squares .entry)) (i + count) nan ⊖ getD (now (squares .entry)) i nan)) (length (now (products .entry))) ⌝ }
+fn fill_products(products: &mut [f64], energy: &[f64], count: usize, floor: f64, whole: f64)
+    requires { ⌜ length (now products) + count ≤ length (now energy) ⌝ }
+    ensures { λ _. ⌜ now (products .exit) ≡ tabulate (λ (i : ℕ). whole ⊗ atLeast floor (getD (now (energy .entry)) (i + count) nan ⊖ getD (now (energy .entry)) i nan)) (length (now (products .entry))) ⌝ }
 {
     let mut i = 0usize;
     while i < products.len() {
-        products[i] = whole * at_least(floor, squares[i + count] - squares[i]);
+        products[i] = whole * at_least(floor, energy[i + count] - energy[i]);
         i += 1;
     }
 }
@@ -43,7 +43,7 @@ fn add_quotients(scores: &mut [f64], dotted: &[f32], roots: &[f64])
 pub fn add_block(
     scores: &mut [f64],
     reference: &[f32],
-    squares: &[f64],
+    energy: &[f64],
     query: &[f32],
     floor: f64,
     whole: f64,
@@ -53,10 +53,10 @@ pub fn add_block(
 )
     requires { ⌜ length (now scores) ≤ length (now dotted) ⌝ }
     requires { ⌜ length (now products) ≡ length (now dotted) ⌝ ∗ ⌜ length (now roots) ≡ length (now dotted) ⌝ }
-    requires { ⌜ length (now dotted) + length (now query) ≤ length (now reference) + 1 ⌝ ∗ ⌜ length (now dotted) + length (now query) ≤ length (now squares) ⌝ }
-    ensures { λ _. ⌜ now (scores .exit) ≡ tabulate (λ (i : ℕ). getD (now (scores .entry)) i nan ⊕ bandTerm (now (reference .entry)) (now (squares .entry)) (now (query .entry)) floor whole i) (length (now (scores .entry))) ⌝ }
+    requires { ⌜ length (now dotted) + length (now query) ≤ length (now reference) + 1 ⌝ ∗ ⌜ length (now dotted) + length (now query) ≤ length (now energy) ⌝ }
+    ensures { λ _. ⌜ now (scores .exit) ≡ tabulate (λ (i : ℕ). getD (now (scores .entry)) i nan ⊕ bandTerm (now (reference .entry)) (now (energy .entry)) (now (query .entry)) floor whole i) (length (now (scores .entry))) ⌝ }
 {
-    fill_products(products, squares, query.len(), floor, whole);
+    fill_products(products, energy, query.len(), floor, whole);
     root_row(roots, products);
     dots(dotted, reference, query);
     add_quotients(scores, dotted, roots);

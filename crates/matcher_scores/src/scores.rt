@@ -73,18 +73,18 @@ pub fn variance_floor(n: usize) -> f64
 fn add_band(
     scores: &mut [f64],
     reference: &[f32],
-    squares: &[f64],
+    energy: &[f64],
     query: &[f32],
     floor: f64,
-    query_energy: f64,
+    whole_energy: f64,
     low: usize,
     dotted: &mut [f32],
     products: &mut [f64],
     roots: &mut [f64],
 )
-    requires { ⌜ low + length (now scores) + length (now query) ≤ length (now reference) + 1 ⌝ ∗ ⌜ length (now reference) < length (now squares) ⌝ }
+    requires { ⌜ low + length (now scores) + length (now query) ≤ length (now reference) + 1 ⌝ ∗ ⌜ length (now reference) < length (now energy) ⌝ }
     requires { ⌜ length (now dotted) ≡ 120 ⌝ ∗ ⌜ length (now products) ≡ 120 ⌝ ∗ ⌜ length (now roots) ≡ 120 ⌝ }
-    ensures { λ _. ⌜ now (scores .exit) ≡ tabulate (λ (i : ℕ). getD (now (scores .entry)) i nan ⊕ bandTerm (now (reference .entry)) (now (squares .entry)) (now (query .entry)) floor «query_energy» (low + i)) (length (now (scores .entry))) ⌝ }
+    ensures { λ _. ⌜ now (scores .exit) ≡ tabulate (λ (i : ℕ). getD (now (scores .entry)) i nan ⊕ bandTerm (now (reference .entry)) (now (energy .entry)) (now (query .entry)) floor «whole_energy» (low + i)) (length (now (scores .entry))) ⌝ }
 {
     let mut i = 0usize;
     while i < scores.len() {
@@ -94,10 +94,10 @@ fn add_band(
         add_block(
             &mut scores[i..end],
             &reference[at..],
-            &squares[at..],
+            &energy[at..],
             query,
             floor,
-            query_energy,
+            whole_energy,
             &mut dotted[..k],
             &mut products[..k],
             &mut roots[..k],
@@ -110,10 +110,10 @@ fn add_band(
 fn add_nth(
     scores: &mut [f64],
     reference: &[f32],
-    squares: &[f64],
+    energy: &[f64],
     frames: usize,
     query: &[f32],
-    wholes: &[f64],
+    whole: &[f64],
     count: usize,
     low: usize,
     b: usize,
@@ -121,11 +121,11 @@ fn add_nth(
     products: &mut [f64],
     roots: &mut [f64],
 )
-    requires { ⌜ b * frames + frames ≤ length (now reference) ⌝ ∗ ⌜ b * (frames + 1) + (frames + 1) ≤ length (now squares) ⌝ }
-    requires { ⌜ b * count + count ≤ length (now query) ⌝ ∗ ⌜ b < length (now wholes) ⌝ }
+    requires { ⌜ b * frames + frames ≤ length (now reference) ⌝ ∗ ⌜ b * (frames + 1) + (frames + 1) ≤ length (now energy) ⌝ }
+    requires { ⌜ b * count + count ≤ length (now query) ⌝ ∗ ⌜ b < length (now whole) ⌝ }
     requires { ⌜ low + length (now scores) + count ≤ frames + 1 ⌝ }
     requires { ⌜ length (now dotted) ≡ 120 ⌝ ∗ ⌜ length (now products) ≡ 120 ⌝ ∗ ⌜ length (now roots) ≡ 120 ⌝ }
-    ensures { λ _. ⌜ now (scores .exit) ≡ tabulate (λ (i : ℕ). getD (now (scores .entry)) i nan ⊕ termAt (bandsOf frames (now (reference .entry)) (now (squares .entry))) count (now (query .entry)) (now (wholes .entry)) (low + i) b) (length (now (scores .entry))) ⌝ }
+    ensures { λ _. ⌜ now (scores .exit) ≡ tabulate (λ (i : ℕ). getD (now (scores .entry)) i nan ⊕ termAt (bandsOf frames (now (reference .entry)) (now (energy .entry))) count (now (query .entry)) (now (whole .entry)) (low + i) b) (length (now (scores .entry))) ⌝ }
 {
     let from = b * frames;
     let to = from + frames;
@@ -134,14 +134,14 @@ fn add_nth(
     let at = b * count;
     let past = at + count;
     let floor = variance_floor(count);
-    let query_energy = at_least(floor, wholes[b]);
+    let whole_energy = at_least(floor, whole[b]);
     add_band(
         scores,
         &reference[from..to],
-        &squares[start..end],
+        &energy[start..end],
         &query[at..past],
         floor,
-        query_energy,
+        whole_energy,
         low,
         dotted,
         products,
@@ -174,18 +174,18 @@ fn scale(scores: &mut [f64], by: f64)
 fn sum_bands(
     scores: &mut [f64],
     reference: &[f32],
-    squares: &[f64],
+    energy: &[f64],
     frames: usize,
     query: &[f32],
-    wholes: &[f64],
+    whole: &[f64],
     count: usize,
     bands: usize,
     low: usize,
 )
-    requires { ⌜ bands * frames ≤ length (now reference) ⌝ ∗ ⌜ bands * (frames + 1) ≤ length (now squares) ⌝ }
-    requires { ⌜ bands * count ≤ length (now query) ⌝ ∗ ⌜ bands ≤ length (now wholes) ⌝ }
+    requires { ⌜ bands * frames ≤ length (now reference) ⌝ ∗ ⌜ bands * (frames + 1) ≤ length (now energy) ⌝ }
+    requires { ⌜ bands * count ≤ length (now query) ⌝ ∗ ⌜ bands ≤ length (now whole) ⌝ }
     requires { ⌜ low + length (now scores) + count ≤ frames + 1 ⌝ }
-    ensures { λ _. ⌜ now (scores .exit) ≡ tabulate (λ (i : ℕ). sumTo (termAt (bandsOf frames (now (reference .entry)) (now (squares .entry))) count (now (query .entry)) (now (wholes .entry)) (low + i)) bands) (length (now (scores .entry))) ⌝ }
+    ensures { λ _. ⌜ now (scores .exit) ≡ tabulate (λ (i : ℕ). sumTo (termAt (bandsOf frames (now (reference .entry)) (now (energy .entry))) count (now (query .entry)) (now (whole .entry)) (low + i)) bands) (length (now (scores .entry))) ⌝ }
 {
     let mut dotted = [0.0f32; BLOCK];
     let mut products = [0.0f64; BLOCK];
@@ -196,10 +196,10 @@ fn sum_bands(
         add_nth(
             scores,
             reference,
-            squares,
+            energy,
             frames,
             query,
-            wholes,
+            whole,
             count,
             low,
             b,
@@ -216,26 +216,26 @@ fn sum_bands(
 pub fn correlations(
     scores: &mut [f64],
     reference: &[f32],
-    squares: &[f64],
+    energy: &[f64],
     frames: usize,
     query: &[f32],
-    wholes: &[f64],
+    whole: &[f64],
     count: usize,
     bands: usize,
     low: usize,
 )
-    requires { ⌜ bands * frames ≤ length (now reference) ⌝ ∗ ⌜ bands * (frames + 1) ≤ length (now squares) ⌝ }
-    requires { ⌜ bands * count ≤ length (now query) ⌝ ∗ ⌜ bands ≤ length (now wholes) ⌝ }
+    requires { ⌜ bands * frames ≤ length (now reference) ⌝ ∗ ⌜ bands * (frames + 1) ≤ length (now energy) ⌝ }
+    requires { ⌜ bands * count ≤ length (now query) ⌝ ∗ ⌜ bands ≤ length (now whole) ⌝ }
     requires { ⌜ low + length (now scores) + count ≤ frames + 1 ⌝ }
-    ensures { λ _. ⌜ now (scores .exit) ≡ correlations bands (bandsOf frames (now (reference .entry)) (now (squares .entry))) count (now (query .entry)) (now (wholes .entry)) low (length (now (scores .entry))) ⌝ }
+    ensures { λ _. ⌜ now (scores .exit) ≡ correlations bands (bandsOf frames (now (reference .entry)) (now (energy .entry))) count (now (query .entry)) (now (whole .entry)) low (length (now (scores .entry))) ⌝ }
 {
     sum_bands(
         scores,
         reference,
-        squares,
+        energy,
         frames,
         query,
-        wholes,
+        whole,
         count,
         bands,
         low,
@@ -246,43 +246,43 @@ pub fn correlations(
 // What a band adds to the score of the query's part from `low` up to `high`.
 fn part_term(
     reference: &[f32],
-    squares: &[f64],
+    energy: &[f64],
     query: &[f32],
-    query_squares: &[f64],
+    query_energy: &[f64],
     start: usize,
     low: usize,
     high: usize,
 ) -> f64
-    requires { ⌜ low ≤ high ⌝ ∗ ⌜ start + high ≤ length (now reference) ⌝ ∗ ⌜ length (now reference) < length (now squares) ⌝ }
-    requires { ⌜ high ≤ length (now query) ⌝ ∗ ⌜ length (now query) < length (now «query_squares») ⌝ }
-    ensures { λ r. ⌜ r ≡ partTerm (now (reference .entry)) (now (squares .entry)) (now (query .entry)) (now («query_squares» .entry)) start low high ⌝ }
+    requires { ⌜ low ≤ high ⌝ ∗ ⌜ start + high ≤ length (now reference) ⌝ ∗ ⌜ length (now reference) < length (now energy) ⌝ }
+    requires { ⌜ high ≤ length (now query) ⌝ ∗ ⌜ length (now query) < length (now «query_energy») ⌝ }
+    ensures { λ r. ⌜ r ≡ partTerm (now (reference .entry)) (now (energy .entry)) (now (query .entry)) (now («query_energy» .entry)) start low high ⌝ }
 {
     let floor = variance_floor(high - low);
     let from = start + low;
     let to = start + high;
     let dot = widen(dot_product(&reference[from..to], &query[low..high]));
-    let energy = at_least(floor, squares[to] - squares[from]);
-    let query_energy = at_least(floor, query_squares[high] - query_squares[low]);
-    dot / root(energy * query_energy)
+    let reference_energy = at_least(floor, energy[to] - energy[from]);
+    let query_part = at_least(floor, query_energy[high] - query_energy[low]);
+    dot / root(reference_energy * query_part)
 }
 
 // What band b adds to the score of the query's part.
 fn part_nth(
     reference: &[f32],
-    squares: &[f64],
+    energy: &[f64],
     frames: usize,
     query: &[f32],
-    query_squares: &[f64],
+    query_energy: &[f64],
     count: usize,
     start: usize,
     low: usize,
     high: usize,
     b: usize,
 ) -> f64
-    requires { ⌜ b * frames + frames ≤ length (now reference) ⌝ ∗ ⌜ b * (frames + 1) + (frames + 1) ≤ length (now squares) ⌝ }
-    requires { ⌜ b * count + count ≤ length (now query) ⌝ ∗ ⌜ b * (count + 1) + (count + 1) ≤ length (now «query_squares») ⌝ }
+    requires { ⌜ b * frames + frames ≤ length (now reference) ⌝ ∗ ⌜ b * (frames + 1) + (frames + 1) ≤ length (now energy) ⌝ }
+    requires { ⌜ b * count + count ≤ length (now query) ⌝ ∗ ⌜ b * (count + 1) + (count + 1) ≤ length (now «query_energy») ⌝ }
     requires { ⌜ low ≤ high ⌝ ∗ ⌜ high ≤ count ⌝ ∗ ⌜ start + count ≤ frames ⌝ }
-    ensures { λ r. ⌜ r ≡ partAt (bandsOf frames (now (reference .entry)) (now (squares .entry))) (bandsOf count (now (query .entry)) (now («query_squares» .entry))) start low high b ⌝ }
+    ensures { λ r. ⌜ r ≡ partAt (bandsOf frames (now (reference .entry)) (now (energy .entry))) (bandsOf count (now (query .entry)) (now («query_energy» .entry))) start low high b ⌝ }
 {
     let from = b * frames;
     let to = from + frames;
@@ -294,9 +294,9 @@ fn part_nth(
     let end = begin + (count + 1);
     part_term(
         &reference[from..to],
-        &squares[first..last],
+        &energy[first..last],
         &query[at..past],
-        &query_squares[begin..end],
+        &query_energy[begin..end],
         start,
         low,
         high,
@@ -307,20 +307,20 @@ fn part_nth(
 // `start`.
 pub fn score_part(
     reference: &[f32],
-    squares: &[f64],
+    energy: &[f64],
     frames: usize,
     query: &[f32],
-    query_squares: &[f64],
+    query_energy: &[f64],
     count: usize,
     bands: usize,
     start: usize,
     low: usize,
     high: usize,
 ) -> f64
-    requires { ⌜ bands * frames ≤ length (now reference) ⌝ ∗ ⌜ bands * (frames + 1) ≤ length (now squares) ⌝ }
-    requires { ⌜ bands * count ≤ length (now query) ⌝ ∗ ⌜ bands * (count + 1) ≤ length (now «query_squares») ⌝ }
+    requires { ⌜ bands * frames ≤ length (now reference) ⌝ ∗ ⌜ bands * (frames + 1) ≤ length (now energy) ⌝ }
+    requires { ⌜ bands * count ≤ length (now query) ⌝ ∗ ⌜ bands * (count + 1) ≤ length (now «query_energy») ⌝ }
     requires { ⌜ low ≤ high ⌝ ∗ ⌜ high ≤ count ⌝ ∗ ⌜ start + count ≤ frames ⌝ }
-    ensures { λ r. ⌜ r ≡ scorePart bands (bandsOf frames (now (reference .entry)) (now (squares .entry))) (bandsOf count (now (query .entry)) (now («query_squares» .entry))) start low high ⌝ }
+    ensures { λ r. ⌜ r ≡ scorePart bands (bandsOf frames (now (reference .entry)) (now (energy .entry))) (bandsOf count (now (query .entry)) (now («query_energy» .entry))) start low high ⌝ }
 {
     let mut score = 0.0f64;
     let mut b = 0usize;
@@ -328,10 +328,10 @@ pub fn score_part(
         score = score
             + part_nth(
                 reference,
-                squares,
+                energy,
                 frames,
                 query,
-                query_squares,
+                query_energy,
                 count,
                 start,
                 low,

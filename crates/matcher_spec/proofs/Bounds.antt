@@ -8,8 +8,8 @@ use mathlib.Core.Bool.{false}
 use lib.IntN.{pos}
 use lib.Ieee.{Float, nan, inf, fin, Format, binary64, prec, emax, le}
 use Rattle.numbers_spec.proofs.Order.{cross, below→le}
-use Rattle.numbers_spec.specs.Arithmetic.{zero⁺}
-use Rattle.numbers_spec.specs.Values.{magnitude, AtMost, Den, Within, Holds}
+use Rattle.numbers_spec.specs.Arithmetic.{zero⁺, magnitude}
+use Rattle.numbers_spec.specs.Values.{AtMost, Den, Within, Holds}
 use Rattle.numbers_spec.proofs.Within.{add-within}
 use Rattle.numbers_spec.specs.Rows.{sumTo}
 

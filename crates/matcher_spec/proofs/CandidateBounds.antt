@@ -13,27 +13,28 @@ use lib.Count.{trailingZeros}
 use lib.Ieee.{Float, nan, inf, fin, binary64, neg, div, lt, eq, le, ofBits, ofFields, round, units, size, span, climb, odd, toUnsigned, isNan}
 use lib.Ieee.Positive.{positive, positive-finite}
 use lib.Ieee.Scale.{finite}
-use Rattle.numbers_spec.specs.Arithmetic.{_⊕_, _⊖_, _⊗_, _⊘_, zero⁺, one, two, real, countOf}
+use Rattle.numbers_spec.specs.Arithmetic.{_⊕_, _⊖_, _⊗_, _⊘_, zero⁺, one, two, real, countOf, magnitude}
 use Rattle.numbers_spec.specs.Logarithm.{half}
 use Rattle.numbers_spec.proofs.Value.{finite-no-nan}
-use Rattle.numbers_spec.specs.Values.{magnitude, AtMost, size as sizeOf, Den, Within}
+use Rattle.numbers_spec.specs.Values.{AtMost, size as sizeOf, Den, Within}
 use Rattle.numbers_spec.proofs.Order.{le-self, lt→le, not-lt→le, le-transitive, neg-le, neg-finite, between-at-most, positive-above, positive-not-negative}
 use Rattle.numbers_spec.proofs.Products.{div-mono}
 use Rattle.numbers_spec.proofs.Within.{add-within, sub-within, mul-within, div-within, le→size}
 use Rattle.numbers_spec.proofs.CountLaws.{count-monotone}
 use Rattle.numbers_spec.specs.Rows.{tabulate}
-use Rattle.matcher_spec.specs.Energy.{withEnergies, totals}
+use Rattle.matcher_spec.specs.Energy.{withEnergies, wholeEnergies}
 use Rattle.matcher_spec.specs.Scores.{correlationAt, correlations}
 use Rattle.matcher_spec.specs.Peaks.{firstMaximum}
 use Rattle.matcher_spec.specs.Search.{flat, minusHalf, clamped, vertex, fraction, recentMs, candidateOf, candidateIn}
 use Rattle.matcher_spec.specs.declared.types.Reference.{Reference}
 use Rattle.numbers_spec.proofs.RowLaws.{length-tabulate}
-use Rattle.matcher_spec.specs.CandidateBounds.{tenTrillion, WithinModest, SoundModest, VertexAtMost, FractionAtMost, Timed, CandidateOfSound, CandidateInSound}
+use Rattle.matcher_spec.specs.CandidateBounds.{WithinModest, SoundModest, VertexAtMost, FractionAtMost, Timed, CandidateOfSound, CandidateInSound}
 use Rattle.matcher_spec.proofs.Cases.{cond-elim, is-T, is-not-T, and-true-r}
 use Rattle.matcher_spec.proofs.Bounds.{holds, widened, widened-to, within-at-most, at-most-within}
 use Rattle.matcher_spec.proofs.PeakLaws.{first-maximum}
 use Rattle.matcher_spec.proofs.RowAccess.{every-tabulate}
 use Rattle.matcher_spec.proofs.ScoreBounds.{real-within, correlation-within, score-part-within}
+use Rattle.matcher_spec.specs.Limits.{framesMost, farthest, trackMost}
 
 -- ---- bounds
 pub within-modest : WithinModest
@@ -41,7 +42,7 @@ within-modest p x h X =
     let wide : Within 1 43 x = widened 1 p 1 43 x (omega (arith, pow-mono h)) X in
     record {
       number = finite-no-nan x (X .finite-is);
-      at-most = le-transitive (magnitude x) (fin false 1 (pos 43)) tenTrillion (within-at-most 1 43 x wide) (unfold le lt eq ofBits ofFields odd trailingZeros in tt);
+      at-most = le-transitive (magnitude x) (fin false 1 (pos 43)) trackMost (within-at-most 1 43 x wide) (unfold le lt eq ofBits ofFields odd trailingZeros in tt);
     }
 
 pub sound-modest : SoundModest
@@ -163,11 +164,11 @@ module _ (x : Reference) (start : Float) (τ : Timed x start) where
       (positive-above one (x .«hop_ms») tt (hop-within .finite-is) (τ .hop .from)) (positive-not-negative recentMs recent-positive) (le-self recentMs (positive-finite recentMs recent-positive)) (τ .hop .to))))
 
   -- the offset of a place and a fraction
-  offset-within : (index : ℕ) (f : Float) → index ≤ 65535 → AtMost half f → Within 1 41 (x .«start_ms» ⊕ (real index ⊕ f) ⊗ x .«hop_ms» ⊖ start)
+  offset-within : (index : ℕ) (f : Float) → index ≤ framesMost → AtMost half f → Within 1 41 (x .«start_ms» ⊕ (real index ⊕ f) ⊗ x .«hop_ms» ⊖ start)
   offset-within index f h F =
-      widened-to (10 ^ 12 + 65536000 + 10 ^ 12) (10 ^ 12 + 65536000 + 10 ^ 12) 0 1 41 _ (le-refl (10 ^ 12 + 65536000 + 10 ^ 12)) tt
-      (sub-within binary64 (10 ^ 12 + 65536000) (10 ^ 12) 0 _ start (holds binary64 _ (10 ^ 12 + 65536000 + 10 ^ 12) 0 (le-refl (10 ^ 12 + 65536000 + 10 ^ 12)) tt tt)
-      (add-within binary64 (10 ^ 12) 65536000 0 (x .«start_ms») _ (holds binary64 _ (10 ^ 12 + 65536000) 0 (le-refl (10 ^ 12 + 65536000)) tt tt) (τ .reference-start) way)
+      widened-to (farthest + 65536000 + farthest) (farthest + 65536000 + farthest) 0 1 41 _ (le-refl (farthest + 65536000 + farthest)) tt
+      (sub-within binary64 (farthest + 65536000) (farthest) 0 _ start (holds binary64 _ (farthest + 65536000 + farthest) 0 (le-refl (farthest + 65536000 + farthest)) tt tt)
+      (add-within binary64 (farthest) 65536000 0 (x .«start_ms») _ (holds binary64 _ (farthest + 65536000) 0 (le-refl (farthest + 65536000)) tt tt) (τ .reference-start) way)
       (τ .query-start))
     where
       beside : Within 1 0 f
@@ -201,4 +202,4 @@ candidate-in-sound x n count values query start C some τ low high h k =
     (every-tabulate (Within 1 40) score (high - low + 1) (λ i w. correlation-within (x .bands) n count values query C (low + i) (omega arith)))
   where
     score : ℕ → Float
-    score i = correlationAt (x .bands) (withEnergies (x .bands) n values) count query (totals (x .bands) (withEnergies (x .bands) count query)) (low + i)
+    score i = correlationAt (x .bands) (withEnergies (x .bands) n values) count query (wholeEnergies (x .bands) (withEnergies (x .bands) count query)) (low + i)

@@ -13,7 +13,7 @@ use mir.Val.{Val}
 use denote.Laws.{Is}
 use denote.Struct.Declared.{row}
 use Rattle.numbers_spec.specs.Arithmetic.{_⊖_, absolute}
-use Rattle.matcher_spec.specs.Peaks.{most}
+use Rattle.matcher_spec.specs.Limits.{candidatesMost}
 use Rattle.matcher_spec.specs.Candidates.{insert, crowded, independentFrom, independent, blank, resultOf, listed, marginOf, apartMs}
 use Rattle.matcher_spec.specs.declared.types.Candidate.{Candidate}
 use Rattle.matcher_spec.specs.declared.types.MatchResult.{MatchResult}
@@ -36,7 +36,7 @@ no-more l n h = ap (λ (k : ℕ). drop k (take n l)) (sym (length-take-le n l h)
 
 -- ---- results
 pub listed-result : (l : List Candidate) {r : MatchResult} → r ≡ resultOf l → listed r ≡ l
-listed-result l e = ap (λ (x : MatchResult). listed x) e ∙ take-at l (replicate (most - length l) blank) (length l) refl
+listed-result l e = ap (λ (x : MatchResult). listed x) e ∙ take-at l (replicate (candidatesMost - length l) blank) (length l) refl
 
 pub result-listed : (l : List Candidate) {r : MatchResult} → r ≡ resultOf l → r ≡ resultOf (listed r)
 result-listed l e = e ∙ ap (λ (x : List Candidate). resultOf x) (sym (listed-result l e))

@@ -11,16 +11,16 @@ use lib.ListN.{length, getD, length-take}
 use lib.Ieee.{Float, nan, fin, binary32, binary64, round, add, sub, div, neg, ofInt, ofBits, fits, le}
 use lib.Ieee.Fits.{add-fits, sub-fits, div-fits, and-l, and-r}
 use lib.Ieee.Scale.{finite}
-use Rattle.numbers_spec.specs.Arithmetic.{_⊕_, _⊖_, _⊗_, zero⁺, real}
+use Rattle.numbers_spec.specs.Arithmetic.{_⊕_, _⊖_, _⊗_, zero⁺, real, magnitude}
 use Rattle.numbers_spec.specs.Logarithm.{log1pOf}
 use Rattle.numbers_spec.specs.Narrow.{nearestF32}
 use Rattle.matcher_spec.specs.Centring.{sumOf, meanAround, centredAt, logs, centred, kept}
 use Rattle.matcher_spec.specs.Timeline.{validValue, validValues}
-use Rattle.numbers_spec.specs.Rows.{row, sumTo}
+use Rattle.numbers_spec.specs.Rows.{row, sumTo, Every, F32}
 use Rattle.matcher_spec.specs.Energy.{zeroF32, four, _+₃₂_, average, averages}
 use Rattle.numbers_spec.proofs.RowLaws.{length-tabulate, all-fails}
 use Rattle.numbers_spec.specs.LogLaws.{logMost₃₂}
-use Rattle.numbers_spec.specs.Values.{magnitude, AtMost}
+use Rattle.numbers_spec.specs.Values.{AtMost}
 use Rattle.numbers_spec.proofs.Order.{between-at-most, le-self, le-transitive}
 use Rattle.numbers_spec.proofs.Narrowing.{narrow-mono}
 use Rattle.numbers_spec.proofs.Log1p.{log1p-finite}
@@ -29,7 +29,6 @@ use Rattle.numbers_spec.proofs.Products.{div-at-most}
 use Rattle.matcher_spec.proofs.Bounds.{widened-to, at-most-within}
 use Rattle.matcher_spec.proofs.WholeBounds.{Upto, beside, real-finite, upto-finite, upto-more, upto-add, upto-mul, upto-real, upto-sub, upto-div, add-grows}
 use Rattle.matcher_spec.proofs.RowAccess.{every-part, every-tabulate, every-rows}
-use Rattle.matcher_spec.specs.Words.{Every, F32}
 use Rattle.matcher_spec.specs.CentringBounds.{Small, CentredWithin, KeptWithin, AveragesWithin, FineWithin, QueryWithin, AllAveragesWithin}
 
 -- ---- prefix sums of values from 0 to 91

@@ -10,7 +10,8 @@ use Rattle.matcher_spec.specs.Timeline.{onTime, regular, accepts}
 use Rattle.matcher_spec.specs.Centring.{contextFrames, radius, centred}
 use Rattle.matcher_spec.specs.Peaks.{nearTo, freeTo, peaksFrom}
 use Rattle.matcher_spec.specs.Candidates.{marginOf}
-use Rattle.matcher_spec.specs.Search.{Window, searchable, wholeSearch, localSearch}
+use Rattle.matcher_spec.specs.Search.{searchable, wholeSearch, localSearch}
+use Rattle.matcher_spec.specs.Features.{Features}
 use Rattle.matcher_spec.specs.declared.types.Reference.{Reference}
 use Rattle.matcher_spec.specs.Figures.{Figures, P3, twenty}
 use Rattle.matcher_spec.proofs.Cases.{and-false}
@@ -20,7 +21,7 @@ radius-is : radius twenty ≡ 13
 unfolding radius contextFrames wholeNearest div round units size ofBits toUnsigned lt le
 radius-is = refl
 
-too-short : (x : Reference) (w : Window) → x .«hop_ms» ≡ twenty → length (w .times) ≡ 42 → searchable x w ≡ false
+too-short : (x : Reference) (w : Features) → x .«hop_ms» ≡ twenty → length (w .times) ≡ 42 → searchable x w ≡ false
 unfolding searchable
 too-short x w e h = rw (e, radius-is, h) (and-false (accepts (x .bands) twenty (w .bands) (w .times)))
 

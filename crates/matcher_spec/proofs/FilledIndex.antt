@@ -11,7 +11,7 @@ use Rattle.matcher_spec.specs.Energy.{bandsOf, allAverages}
 use Rattle.matcher_spec.specs.Index.{Matcher, matcherOf, fineValues}
 use Rattle.matcher_spec.specs.Search.{wholeSearch, localSearch}
 use Rattle.matcher_spec.specs.FilledIndex.{Sized, opened, FilledIndex}
-use Rattle.matcher_spec.proofs.RowAccess.{length-fine, length-averages, length-squares}
+use Rattle.matcher_spec.proofs.RowAccess.{length-fine, length-averages, length-energy}
 
 sized : (hop : Float) (bands : ℕ) (times values : List Float) → length values ≡ bands * length times → Sized (matcherOf hop bands times values)
 unfolding matcherOf
@@ -22,9 +22,9 @@ sized hop bands times values e =
     let averaged = length-averages bands n fine (le-of-eq (sym size)) in
     record {
       fine-values = size;
-      fine-squares = length-squares bands n fine (le-of-eq (sym size));
+      fine-energy = length-energy bands n fine (le-of-eq (sym size));
       coarse-values = averaged;
-      coarse-squares = length-squares bands (n / 4) (allAverages bands n fine) (le-of-eq (sym averaged));
+      coarse-energy = length-energy bands (n / 4) (allAverages bands n fine) (le-of-eq (sym averaged));
     }
 
 pub filled-index : FilledIndex
@@ -47,8 +47,8 @@ filled-index hop bands times values e = record {
       reference = m .reference;
       fine = bandsOf (length times)
           (take-at (m .fine .values) (drop (length (m .fine .values)) a) (bands * length times) (size .fine-values) i)
-          (take-at (m .fine .squares) (drop (length (m .fine .squares)) c) (bands * suc (length times)) (size .fine-squares) i);
+          (take-at (m .fine .energy) (drop (length (m .fine .energy)) c) (bands * suc (length times)) (size .fine-energy) i);
       coarse = bandsOf (length times / 4)
           (take-at (m .coarse .values) (drop (length (m .coarse .values)) b) (bands * (length times / 4)) (size .coarse-values) i)
-          (take-at (m .coarse .squares) (drop (length (m .coarse .squares)) d) (bands * suc (length times / 4)) (size .coarse-squares) i);
+          (take-at (m .coarse .energy) (drop (length (m .coarse .energy)) d) (bands * suc (length times / 4)) (size .coarse-energy) i);
     }

@@ -13,7 +13,8 @@ use lib.Ieee.{Float, nan, lt, le}
 use borrow.Author.Tests.{ltb-false, eqb-true, eqb-false, eq-eqb, ne-eqb}
 use Rattle.numbers_spec.specs.Values.{Number}
 use Rattle.numbers_spec.proofs.Order.{le-reflexive, le-transitive, lt→le, le→not-lt, not-lt→le, not-le→lt}
-use Rattle.matcher_spec.specs.Peaks.{maximumTo, apart, nearTo, better, freeTo, bestFree, peaksFrom, most, peaks}
+use Rattle.matcher_spec.specs.Peaks.{maximumTo, apart, nearTo, better, freeTo, bestFree, peaksFrom, peaks}
+use Rattle.matcher_spec.specs.Limits.{candidatesMost}
 use Rattle.matcher_spec.specs.PeakLaws.{Numbers, FirstMaximum, Free, FreeIsApart, FirstFree, PeaksFew, PeaksWithin, PeaksApart, PeakIsBest, PeakFirstLargest, PeaksExhaust}
 use Rattle.matcher_spec.proofs.Cases.{cond-elim, is-T, is-not-T, never, or-false-l, or-false-r}
 
@@ -183,10 +184,10 @@ module _ (s : List Float) (separation : ℕ) where
       (λ e h. peaks-stop k (l ++ (bestFree s separation l ∷ [])) (omega (arith, length-append l (bestFree s separation l ∷ []))))
 
   all-taken : Taken (peaks s separation)
-  all-taken = peaks-taken most [] (λ j h. absurd (not-suc-le-zero h))
+  all-taken = peaks-taken candidatesMost [] (λ j h. absurd (not-suc-le-zero h))
 
 pub peaks-few : PeaksFew
-peaks-few s separation = few s separation most []
+peaks-few s separation = few s separation candidatesMost []
 
 pub peaks-within : PeaksWithin
 peaks-within s separation j h = all-taken s separation j h .1
@@ -208,4 +209,4 @@ pub peak-first-largest : PeakFirstLargest
 peak-first-largest s separation j N h = is-first s separation (take j (peaks s separation)) N (peak-scanned s separation j h) (all-taken s separation j h .1)
 
 pub peaks-exhaust : PeaksExhaust
-peaks-exhaust s separation i h = none-free s separation (peaks s separation) (scan s separation (peaks s separation) (length s) (omega arith)) (peaks-stop s separation most [] h) i
+peaks-exhaust s separation i h = none-free s separation (peaks s separation) (scan s separation (peaks s separation) (length s) (omega arith)) (peaks-stop s separation candidatesMost [] h) i

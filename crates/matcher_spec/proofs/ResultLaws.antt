@@ -12,9 +12,8 @@ use lib.IntN.{ℤ, pos}
 use lib.Ieee.{Float, nan, inf, fin, binary64, up, down, neg, lt, le, ofBits}
 use lib.Ieee.Scale.{finite}
 use borrow.Author.Tests.{ltb-true, ltb-false, leb-true, eqb-true}
-use Rattle.numbers_spec.specs.Arithmetic.{_⊖_, zero⁺, absolute, countOf, real, atMost}
+use Rattle.numbers_spec.specs.Arithmetic.{_⊖_, zero⁺, absolute, countOf, real, atMost, magnitude}
 use Rattle.numbers_spec.specs.Whole.{wholeBelow}
-use Rattle.numbers_spec.specs.Values.{magnitude}
 use Rattle.numbers_spec.proofs.Order.{le-reflexive, le-transitive, lt→le, not-lt→le}
 use Rattle.numbers_spec.proofs.Sums.{sub-not-negative, distance-symmetric}
 use Rattle.numbers_spec.proofs.CountLaws.{count-monotone, count-of-real, count-at-most}
@@ -22,9 +21,11 @@ use Rattle.matcher_spec.specs.Candidates.{insert, sortInto, sorted, crow
 use Rattle.matcher_spec.specs.Timeline.{accepts, regular, validValues}
 use Rattle.matcher_spec.specs.Centring.{radius}
 use Rattle.matcher_spec.specs.Energy.{Bands}
-use Rattle.matcher_spec.specs.Peaks.{most, peaks}
+use Rattle.matcher_spec.specs.Limits.{candidatesMost}
+use Rattle.matcher_spec.specs.Peaks.{peaks}
 use Rattle.matcher_spec.specs.Index.{Matcher}
-use Rattle.matcher_spec.specs.Search.{Window, searchable, queryOf, queryStart, candidateIn, rangeLow, rangeHigh, candidatesAt, place, localLow, localHigh, localFound, coarseScores, separation, wholeFound, wholeSearch, localSearch}
+use Rattle.matcher_spec.specs.Search.{searchable, queryOf, queryStart, candidateIn, rangeLow, rangeHigh, candidatesAt, place, localLow, localHigh, localFound, coarseScores, separation, wholeFound, wholeSearch, localSearch}
+use Rattle.matcher_spec.specs.Features.{Features}
 use Rattle.matcher_spec.specs.declared.types.Reference.{Reference}
 use Rattle.matcher_spec.specs.declared.types.Candidate.{Candidate}
 use Rattle.matcher_spec.specs.ResultLaws.{All, Pairs, Scored, NoHigher, Far, From, KeptFrom, SortedByScore, BestFirst, Apart750, AtMostEight, WholeApart, AtMostOne, Searchable, SearchableGives, OfPlaces, WholeFinds, LocalFinds, WholeSorted, MarginLaws}
@@ -294,25 +295,25 @@ searchable-gives x w u =
     }
 
 -- the candidates of a whole search, before they are sorted
-abbrev found : Matcher → Window → List Candidate
+abbrev found : Matcher → Features → List Candidate
 found m w =
     let x = m .reference in
     let query = queryOf (radius (x .«hop_ms»)) w in
     candidatesAt x (m .fine) query (queryStart (radius (x .«hop_ms»)) w) (peaks (coarseScores (x .bands) (m .coarse) query) (separation (x .«hop_ms»)))
 
 -- what holds of no candidates and of those found holds of the result
-whole : (G : List Candidate → Type 0) (m : Matcher) (w : Window) → G [] → (Searchable (m .reference) w → G (independent (sorted (found m w)))) → G (wholeSearch m w)
+whole : (G : List Candidate → Type 0) (m : Matcher) (w : Features) → G [] → (Searchable (m .reference) w → G (independent (sorted (found m w)))) → G (wholeSearch m w)
 unfolding wholeSearch wholeFound
 whole G m w g h = cond-elim G (searchable (m .reference) w) (independent (sorted (found m w))) [] (λ u. h (searchable-gives (m .reference) w u)) (λ u. g)
 
-found-every : (P : Candidate → Type 0) (m : Matcher) (w : Window) → OfPlaces (m .reference) (m .fine) w P → Searchable (m .reference) w → Every P (found m w)
+found-every : (P : Candidate → Type 0) (m : Matcher) (w : Features) → OfPlaces (m .reference) (m .fine) w P → Searchable (m .reference) w → Every P (found m w)
 found-every P m w h s =
     let r = radius (m .reference .«hop_ms») in
     let scores = coarseScores (m .reference .bands) (m .coarse) (queryOf r w) in
     candidates-every (m .reference) (m .fine) (queryOf r w) (queryStart r w) {P = P} (h s) (peaks scores (separation (m .reference .«hop_ms»)))
 
 pub at-most-eight : AtMostEight
-at-most-eight m w = whole (λ (l : List Candidate). length l ≤ most) m w (omega arith) (λ s.
+at-most-eight m w = whole (λ (l : List Candidate). length l ≤ candidatesMost) m w (omega arith) (λ s.
     let r = radius (m .reference .«hop_ms») in
     let scores = coarseScores (m .reference .bands) (m .coarse) (queryOf r w) in
     let few = peaks-few scores (separation (m .reference .«hop_ms»)) in
@@ -329,7 +330,7 @@ pub whole-sorted : WholeSorted
 whole-sorted m w h = whole (Pairs NoHigher) m w (λ i j h k. absurd (not-suc-le-zero k)) (λ s. sorted-by-score (found m w) (every-all {P = Scored} (found-every Scored m w h s)))
 
 -- the same for a local search
-near : (G : List Candidate → Type 0) (x : Reference) (fine : Bands) (w : Window) (lower upper : Float) → G []
+near : (G : List Candidate → Type 0) (x : Reference) (fine : Bands) (w : Features) (lower upper : Float) → G []
     → (Searchable x w → G (localFound x fine (queryOf (radius (x .«hop_ms»)) w) (queryStart (radius (x .«hop_ms»)) w) lower upper)) → G (localSearch x fine w lower upper)
 unfolding localSearch
 near G x fine w lower upper g h =

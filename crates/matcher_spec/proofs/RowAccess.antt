@@ -8,13 +8,12 @@ use mathlib.Core.List.{List, _++_}
 use lib.ListN.{length, getD, take, drop, length-append, length-take, length-drop, List·getD-append}
 use lib.Seq.{take-append-le, drop-append-le, drop-at, take-all, getD-take, getD-drop, getD-append-add}
 use lib.Ieee.{Float, nan}
-use Rattle.numbers_spec.specs.Rows.{tabulate, rows, row}
+use Rattle.numbers_spec.specs.Rows.{tabulate, rows, row, Every}
 use Rattle.matcher_spec.specs.Centring.{logs, centredAt, centred, kept}
-use Rattle.matcher_spec.specs.Energy.{energy, energies, average, averages, allEnergies, allAverages, withEnergies, totals}
+use Rattle.matcher_spec.specs.Energy.{energyTo, energies, average, averages, allEnergies, allAverages, withEnergies, wholeEnergies}
 use Rattle.matcher_spec.specs.Index.{fineValues}
 use Rattle.matcher_spec.specs.Search.{queryValues}
 use Rattle.numbers_spec.proofs.RowLaws.{row-within, length-tabulate, getD-tabulate}
-use Rattle.matcher_spec.specs.Words.{Every}
 
 module _ {A : Type 0} (g : ℕ → List A) (n : ℕ) where
   -- Rows of n elements each, `bands` of them, are bands * n elements.
@@ -60,7 +59,7 @@ pub length-kept : (r : ℕ) (v : List Float) → length (kept r v) ≡ length v 
 length-kept r v = simp (length-take, length-drop) (omega arith)
 
 pub length-energies : (v : List Float) → length (energies v) ≡ suc (length v)
-length-energies v = length-tabulate (energy v) (length v + 1) ∙ omega arith
+length-energies v = length-tabulate (energyTo v) (length v + 1) ∙ omega arith
 
 -- the same of `bands` rows of n values each
 module _ (bands n : ℕ) (v : List Float) (h : bands * n ≤ length v) where
@@ -86,8 +85,8 @@ module _ (bands n : ℕ) (v : List Float) (h : bands * n ≤ length v) where
       length-rows (λ (b : ℕ). averages (row n v b)) (n / 4) bands
       (λ b w. length-tabulate (λ (k : ℕ). average (row n v b) (k * 4)) (length (row n v b) / 4) ∙ ap (λ (k : ℕ). k / 4) (row-size b w))
 
-  pub length-squares : length (allEnergies bands n v) ≡ bands * suc n
-  length-squares = length-rows (λ (b : ℕ). energies (row n v b)) (suc n) bands energies-size
+  pub length-energy : length (allEnergies bands n v) ≡ bands * suc n
+  length-energy = length-rows (λ (b : ℕ). energies (row n v b)) (suc n) bands energies-size
 
   -- ---- bands with their energies
   -- The energies of band b are those of its row.
@@ -95,13 +94,13 @@ module _ (bands n : ℕ) (v : List Float) (h : bands * n ≤ length v) where
   energies-row b w = row-of-rows (λ (c : ℕ). energies (row n v c)) (suc n) bands b w energies-size
 
 -- A row's energy at i.
-pub energy-at : (v : List Float) (i : ℕ) → i ≤ length v → getD (energies v) i nan ≡ energy v i
-energy-at v i h = getD-tabulate (energy v) (length v + 1) i nan (omega arith)
+pub energy-at : (v : List Float) (i : ℕ) → i ≤ length v → getD (energies v) i nan ≡ energyTo v i
+energy-at v i h = getD-tabulate (energyTo v) (length v + 1) i nan (omega arith)
 
 -- A band's whole energy.
-pub total-at : (bands n : ℕ) (v : List Float) → bands * n ≤ length v → (b : ℕ) → b < bands → getD (totals bands (withEnergies bands n v)) b nan ≡ energy (row n v b) n
-unfolding totals
-total-at bands n v h b w =
+pub whole-energy-at : (bands n : ℕ) (v : List Float) → bands * n ≤ length v → (b : ℕ) → b < bands → getD (wholeEnergies bands (withEnergies bands n v)) b nan ≡ energyTo (row n v b) n
+unfolding wholeEnergies
+whole-energy-at bands n v h b w =
     getD-tabulate (λ (c : ℕ). getD (allEnergies bands n v) (c * suc n + n) nan) bands b nan w
     ∙ sym (getD-part (suc n) (b * suc n) (allEnergies bands n v) n nan (omega arith))
     ∙ ap (λ (l : List Float). getD l n nan) (energies-row bands n v h b w)

@@ -23,37 +23,38 @@ use Rattle.numbers_spec.proofs.Products.{square-not-negative, mul-mono, mul-mon
 use Rattle.numbers_spec.proofs.RootLaws.{root-monotone, root-normal}
 use Rattle.numbers_spec.proofs.Within.{round-within, add-within, sub-within, mul-within, div-within, le→size}
 use Rattle.numbers_spec.specs.Rows.{row, sumTo}
-use Rattle.matcher_spec.specs.Energy.{energy, withEnergies, totals, zeroF32, _+₃₂_}
+use Rattle.matcher_spec.specs.Energy.{energyTo, withEnergies, wholeEnergies, zeroF32, _+₃₂_}
 use Rattle.matcher_spec.specs.Scores.{product, lane, lanes, onward, dot, thousandth, varianceFloor, bandTerm, termAt, correlationAt, partTerm, partAt, scorePart}
 use Rattle.matcher_spec.specs.ScoreBounds.{Bounded, EnergyWithin, EnergyNotNegative, EnergyGrows, EnergyOfPart, DotWithin, leastWeight, Weight, WeightOfEnergy, ProductNormal, RootOfWeights, BoundedBands, Comparable, weightOf, Radicands, RadicandsNormal, TermWithin, PartWithin, CorrelationWithin, ScorePartWithin}
 use Rattle.matcher_spec.proofs.Bounds.{holds, widened-to, zero-within, sum-to-within}
 use Rattle.matcher_spec.proofs.WholeBounds.{real-mono, add-grows}
 use Rattle.matcher_spec.proofs.Cases.{cond-elim, is-T}
-use Rattle.matcher_spec.proofs.RowAccess.{length-part, length-row, energy-at, energies-row, total-at, every-part}
+use Rattle.matcher_spec.proofs.RowAccess.{length-part, length-row, energy-at, energies-row, whole-energy-at, every-part}
+use Rattle.matcher_spec.specs.Limits.{framesMost, windowMost, bandsMost}
 
 -- ---- energies
 square-within : (v : List Float) → Bounded v → (i : ℕ) → i < length v → Within 1 14 (getD v i nan ⊗ getD v i nan)
 square-within v B i h = mul-within binary64 1 1 7 7 (getD v i nan) (getD v i nan) (holds binary64 1 1 14 (omega arith) tt tt) (B i h) (B i h)
 
 pub energy-within : EnergyWithin
-energy-within v B long i h = sum-to-within (λ (k : ℕ). getD v k nan ⊗ getD v k nan) i 14 (holds binary64 i 65535 14 (omega arith) tt tt) (λ k w. square-within v B k (omega arith))
+energy-within v B long i h = sum-to-within (λ (k : ℕ). getD v k nan ⊗ getD v k nan) i 14 (holds binary64 i framesMost 14 (omega arith) tt tt) (λ k w. square-within v B k (omega arith))
 
-energy-fits : (v : List Float) (i : ℕ) → T (fits binary64 (energy v i))
+energy-fits : (v : List Float) (i : ℕ) → T (fits binary64 (energyTo v i))
 unfolding sumTo
 energy-fits v zero = unfold fits in tt
-energy-fits v (suc i) = add-fits binary64 (energy v i) (getD v i nan ⊗ getD v i nan)
+energy-fits v (suc i) = add-fits binary64 (energyTo v i) (getD v i nan ⊗ getD v i nan)
 
-one-more : (v : List Float) → Bounded v → length v ≤ 65535 → (i : ℕ) → i < length v → T (le (energy v i) (energy v (suc i)))
+one-more : (v : List Float) → Bounded v → length v ≤ framesMost → (i : ℕ) → i < length v → T (le (energyTo v i) (energyTo v (suc i)))
 unfolding sumTo
 one-more v B long i h =
-    add-grows binary64 (energy v i) (getD v i nan ⊗ getD v i nan) (energy-fits v i) (energy-within v B long i (omega arith) .finite-is) (square-within v B i h .finite-is)
+    add-grows binary64 (energyTo v i) (getD v i nan ⊗ getD v i nan) (energy-fits v i) (energy-within v B long i (omega arith) .finite-is) (square-within v B i h .finite-is)
     (square-not-negative binary64 (getD v i nan) (B i h .finite-is))
 
 pub energy-grows : EnergyGrows
-energy-grows v B long i zero h k = let z : i ≡ 0 = omega arith in rw z (le-self (energy v 0) (energy-within v B long 0 k .finite-is))
+energy-grows v B long i zero h k = let z : i ≡ 0 = omega arith in rw z (le-self (energyTo v 0) (energy-within v B long 0 k .finite-is))
 energy-grows v B long i (suc j) h k = ⊎-elim
-    (λ (e : i ≡ suc j). rw e (le-self (energy v (suc j)) (energy-within v B long (suc j) k .finite-is)))
-    (λ (w : i < suc j). le-transitive (energy v i) (energy v j) (energy v (suc j)) (energy-grows v B long i j (omega arith) (omega arith)) (one-more v B long j k))
+    (λ (e : i ≡ suc j). rw e (le-self (energyTo v (suc j)) (energy-within v B long (suc j) k .finite-is)))
+    (λ (w : i < suc j). le-transitive (energyTo v i) (energyTo v j) (energyTo v (suc j)) (energy-grows v B long i j (omega arith) (omega arith)) (one-more v B long j k))
     (eq-or-lt-of-le h)
 
 pub energy-not-negative : EnergyNotNegative
@@ -65,8 +66,8 @@ energy-of-part v B long i j h k =
     let low = energy-within v B long i (le-trans h k) in
     let high = energy-within v B long j k in
     record {
-      within = widened-to (j + i) 131070 14 1 31 (energy v j ⊖ energy v i) (omega arith) tt (sub-within binary64 j i 14 (energy v j) (energy v i) (holds binary64 (j + i) 131070 14 (omega arith) tt tt) high low);
-      not-negative = sub-not-negative binary64 (energy v j) (energy v i) (high .finite-is) (low .finite-is) (energy-grows v B long i j h k);
+      within = widened-to (j + i) 131070 14 1 31 (energyTo v j ⊖ energyTo v i) (omega arith) tt (sub-within binary64 j i 14 (energyTo v j) (energyTo v i) (holds binary64 (j + i) 131070 14 (omega arith) tt tt) high low);
+      not-negative = sub-not-negative binary64 (energyTo v j) (energyTo v i) (high .finite-is) (low .finite-is) (energy-grows v B long i j h k);
     }
 
 -- ---- the dot product
@@ -74,9 +75,9 @@ zero-f32 : Within 0 14 zeroF32
 unfolding ofBits ofFields odd
 zero-f32 = zero-within 14
 
-module _ (l r : List Float) (L : Bounded l) (R : Bounded r) (shorter : length l ≤ length r) (long : length l ≤ 65535) where
+module _ (l r : List Float) (L : Bounded l) (R : Bounded r) (shorter : length l ≤ length r) (long : length l ≤ framesMost) where
   sum-holds : (n : ℕ) → n ≤ length l → Holds binary32 n 14
-  sum-holds n h = holds binary32 n 65535 14 (le-trans h long) tt tt
+  sum-holds n h = holds binary32 n framesMost 14 (le-trans h long) tt tt
 
   product-within : (i : ℕ) → i < length l → Within 1 14 (product l r i)
   product-within i h = mul-within binary32 1 1 7 7 (getD l i nan) (getD r i nan) (holds binary32 1 1 14 (omega arith) tt tt) (L i h) (R i (omega arith))
@@ -129,9 +130,9 @@ dot-within l r L R h k =
     whole n = omega arith
 
 -- ---- counts as floats
-pub real-within : (n : ℕ) → n ≤ 65535 → Within n 0 (real n)
+pub real-within : (n : ℕ) → n ≤ framesMost → Within n 0 (real n)
 unfolding ofInt
-real-within n h = round-within binary64 false n 0 n 1 (lit< tt) (holds binary64 n 65535 0 h tt tt) (omega arith)
+real-within n h = round-within binary64 false n 0 n 1 (lit< tt) (holds binary64 n framesMost 0 h tt tt) (omega arith)
 
 real-large : (n : ℕ) → 1 ≤ n → T (le one (real n))
 real-large n h = unfold ofInt round in real-mono 1 n h
@@ -150,15 +151,15 @@ one-frame : T (le leastWeight (one ⊗ thousandth))
 unfolding le lt eq mul round units size span climb ofBits ofFields odd trailingZeros
 one-frame = tt
 
-floor-weight : (n : ℕ) → 1 ≤ n → n ≤ 65535 → Weight (varianceFloor n)
+floor-weight : (n : ℕ) → 1 ≤ n → n ≤ framesMost → Weight (varianceFloor n)
 unfolding varianceFloor
 floor-weight n h k =
     let w = real-within n k in
     record {
       large = le-transitive leastWeight (one ⊗ thousandth) (real n ⊗ thousandth) one-frame
           (mul-mono-by binary64 one (real n) thousandth tt (w .finite-is) (thousandth-within .finite-is) thousandth-not-negative (real-large n h));
-      within = widened-to (n * 1) 65535 0 1 31 (real n ⊗ thousandth) (omega arith) tt
-          (mul-within binary64 n 1 0 0 (real n) thousandth (holds binary64 (n * 1) 65535 0 (omega arith) tt tt) w thousandth-within);
+      within = widened-to (n * 1) framesMost 0 1 31 (real n ⊗ thousandth) (omega arith) tt
+          (mul-within binary64 n 1 0 0 (real n) thousandth (holds binary64 (n * 1) framesMost 0 (omega arith) tt tt) w thousandth-within);
     }
 
 pub weight-of-energy : WeightOfEnergy
@@ -207,26 +208,26 @@ module _ (bands n : ℕ) (values : List Float) (B : BoundedBands bands n values)
   row-size : (b : ℕ) → b < bands → length (row n values b) ≡ n
   row-size b w = length-row bands n values b (B .long) w
 
-  part-weight : (k b i j : ℕ) → n ≤ 65535 → 1 ≤ k → k ≤ n → b < bands → i ≤ j → j ≤ n → Weight (weightOf (withEnergies bands n values) k b i j)
+  part-weight : (k b i j : ℕ) → n ≤ framesMost → 1 ≤ k → k ≤ n → b < bands → i ≤ j → j ≤ n → Weight (weightOf (withEnergies bands n values) k b i j)
   part-weight k b i j f s m w h l =
       let p = row-size b w in
       rw (energies-row bands n values (B .long) b w, energy-at (row n values b) j (omega arith), energy-at (row n values b) i (omega arith))
       (weight-of-energy k s (omega arith) _ (energy-of-part (row n values b) (row-bounded b) (omega arith) i j h (omega arith) .within))
 
-  whole-weight : (b : ℕ) → n ≤ 65535 → 1 ≤ n → b < bands → Weight (atLeast (varianceFloor n) (getD (totals bands (withEnergies bands n values)) b nan))
+  whole-weight : (b : ℕ) → n ≤ framesMost → 1 ≤ n → b < bands → Weight (atLeast (varianceFloor n) (getD (wholeEnergies bands (withEnergies bands n values)) b nan))
   whole-weight b f s w =
       let p = row-size b w in
-      rw (total-at bands n values (B .long) b w)
-      (weight-of-energy n s f _ (widened-to n 65535 14 1 31 _ f tt (energy-within (row n values b) (row-bounded b) (omega arith) n (omega arith))))
+      rw (whole-energy-at bands n values (B .long) b w)
+      (weight-of-energy n s f _ (widened-to n framesMost 14 1 31 _ f tt (energy-within (row n values b) (row-bounded b) (omega arith) n (omega arith))))
 
 pub radicands : Radicands
 unfolding termAt bandTerm partAt partTerm
-radicands = record { of-term = λ reference count query wholes start b. refl; of-part = λ reference query start low high b. refl }
+radicands = record { of-term = λ reference count query whole start b. refl; of-part = λ reference query start low high b. refl }
 
 module _ (bands n count : ℕ) (values query : List Float) (C : Comparable bands n count values query) where
   -- the weights under the roots
   term-weights : (start b : ℕ) → start + count ≤ n → b < bands
-      → Weight (atLeast (varianceFloor count) (getD (totals bands (withEnergies bands count query)) b nan)) × Weight (weightOf (withEnergies bands n values) count b start (start + length (row count query b)))
+      → Weight (atLeast (varianceFloor count) (getD (wholeEnergies bands (withEnergies bands count query)) b nan)) × Weight (weightOf (withEnergies bands n values) count b start (start + length (row count query b)))
   term-weights start b h w =
       let q = row-size bands count query (C .query-bounded) b w in (
         whole-weight bands count query (C .query-bounded) b (omega arith) (C .heard) w,
@@ -248,11 +249,11 @@ radicands-normal bands n count values query C = record {
 
 -- ---- what a band adds
 -- a dot product over the root of two weights
-quotient-within : (l r : List Float) (x y : Float) → Bounded l → Bounded r → length l ≡ length r → length l ≤ 1024 → Weight x → Weight y → Within 1 34 (dot l r ⊘ rootOf (x ⊗ y))
+quotient-within : (l r : List Float) (x y : Float) → Bounded l → Bounded r → length l ≡ length r → length l ≤ windowMost → Weight x → Weight y → Within 1 34 (dot l r ⊘ rootOf (x ⊗ y))
 quotient-within l r x y L R e h X Y =
     let root = root-of-weights x y X Y in
     div-within binary64 1 24 10 (dot l r) (rootOf (x ⊗ y)) (holds binary64 1 1 34 (omega arith) tt tt)
-    (widened-to (length l) 1024 14 1 24 (dot l r) h tt (dot-within l r L R (le-of-eq e) (omega arith)))
+    (widened-to (length l) windowMost 14 1 24 (dot l r) h tt (dot-within l r L R (le-of-eq e) (omega arith)))
     (root .finite-is) (le→size 9 (rootOf (x ⊗ y)) (root .finite-is) (root .large))
 
 pub term-within : TermWithin
@@ -288,7 +289,7 @@ one→size (fin false m e) Y h = let z = le→below one (fin false m e) tt tt h 
 one-within : Within 1 0 one
 one-within = record { finite-is = tt; small = lit≤ tt }
 
-module _ (bands : ℕ) (some : 1 ≤ bands) (few : bands ≤ 64) where
+module _ (bands : ℕ) (some : 1 ≤ bands) (few : bands ≤ bandsMost) where
   bands-finite : T (finite (real bands))
   bands-finite = real-within bands (omega arith) .finite-is
 

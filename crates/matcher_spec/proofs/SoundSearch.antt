@@ -13,14 +13,14 @@ use Rattle.numbers_spec.specs.Arithmetic.{one}
 use Rattle.numbers_spec.proofs.Value.{finite-no-nan}
 use Rattle.numbers_spec.specs.Values.{Within}
 use Rattle.matcher_spec.specs.Timeline.{regular, validValues}
-use Rattle.numbers_spec.specs.Rows.{row}
+use Rattle.numbers_spec.specs.Rows.{row, Every}
 use Rattle.matcher_spec.specs.Centring.{radius}
 use Rattle.matcher_spec.specs.Energy.{allAverages, withEnergies}
 use Rattle.matcher_spec.specs.Index.{Matcher, acceptsReference, fineValues, matcherOf}
 use Rattle.matcher_spec.specs.Candidates.{blank}
-use Rattle.matcher_spec.specs.Search.{Window, queryValues, queryOf, queryStart, wholeSearch, localSearch}
+use Rattle.matcher_spec.specs.Search.{queryValues, queryOf, queryStart, wholeSearch, localSearch}
+use Rattle.matcher_spec.specs.Features.{Features}
 use Rattle.matcher_spec.proofs.RadiusLaw.{radius-small}
-use Rattle.matcher_spec.specs.Words.{Every}
 use Rattle.matcher_spec.specs.CentringBounds.{Small}
 use Rattle.matcher_spec.specs.ResultLaws.{Searchable, OfPlaces}
 use Rattle.matcher_spec.specs.ScoreBounds.{BoundedBands, Comparable}
@@ -32,6 +32,7 @@ use Rattle.matcher_spec.proofs.CentringBounds.{fine-within, query-withi
 use Rattle.matcher_spec.proofs.ScoreBounds.{energy-grows, radicands-normal}
 use Rattle.matcher_spec.proofs.CandidateBounds.{candidate-in-sound, sound-modest}
 use Rattle.matcher_spec.proofs.ResultLaws.{at-most-eight, whole-apart, whole-finds, whole-sorted, at-most-one, local-finds}
+use Rattle.matcher_spec.specs.Limits.{framesMost, windowMost}
 
 -- ---- small bands
 record SmallBands (bands n : ℕ) (v : List Float) : Type 0 where
@@ -45,7 +46,7 @@ bounded : (bands n : ℕ) (v : List Float) → SmallBands bands n v → BoundedB
 bounded bands n v s = record { long = le-of-eq (sym (s .full)); each = λ i l. s .each i l .within }
 
 -- energies of small bands grow
-growing : (bands n : ℕ) (v : List Float) → n ≤ 65535 → SmallBands bands n v → Growing bands (withEnergies bands n v)
+growing : (bands n : ℕ) (v : List Float) → n ≤ framesMost → SmallBands bands n v → Growing bands (withEnergies bands n v)
 growing bands n v f s b i w h =
     let long = le-of-eq (sym (s .full)) in
     let size = length-row bands n v b long w in
@@ -83,7 +84,7 @@ index-energies-grow hop bands times values G =
     (growing bands n fine short small, growing bands (n / 4) (allAverages bands n fine) (omega arith) (averaged bands n fine small))
 
 -- ---- a window that is searched
-module _ (hop : Float) (bands : ℕ) (times values : List Float) (w : Window) (G : GoodReference hop bands times values) (W : GoodWindow w) where
+module _ (hop : Float) (bands : ℕ) (times values : List Float) (w : Features) (G : GoodReference hop bands times values) (W : GoodWindow w) where
   abbrev m : Matcher
   m = matcherOf hop bands times values
 
@@ -103,7 +104,7 @@ module _ (hop : Float) (bands : ℕ) (times values : List Float) (w : Window) (G
     same-bands = S .same-bands
 
     -- it has 17 frames or more, and lies within the reference
-    lengths : (17 ≤ count) × ((count ≤ 1024) × (count ≤ length times))
+    lengths : (17 ≤ count) × ((count ≤ windowMost) × (count ≤ length times))
     unfolding matcherOf
     lengths =
         let n = W .short in
@@ -119,7 +120,7 @@ module _ (hop : Float) (bands : ℕ) (times values : List Float) (w : Window) (G
           each = query-within (radius hop) bands (length (w .times)) (w .values) (omega arith) (omega arith) (W .held) (S .valid);
         }
 
-    comparable : (n k : ℕ) (v q : List Float) → n ≤ 65535 → 1 ≤ k → k ≤ 1024 → SmallBands bands n v → SmallBands bands k q → Comparable bands n k v q
+    comparable : (n k : ℕ) (v q : List Float) → n ≤ framesMost → 1 ≤ k → k ≤ windowMost → SmallBands bands n v → SmallBands bands k q → Comparable bands n k v q
     comparable n k v q f s h a b = record {
       some = reference-some hop bands times values G;
       few = G .few;

@@ -1,26 +1,22 @@
 -- The numbers of a candidate are no NaN and lie within 10 ^ 13, where the reference and the query are as specs/ScoreBounds.antt bounds them. Definitions only.
-use Prim.Native.Nat.{ℕ, suc, _+_, _^_, _≤_, _<_}
+use Prim.Native.Nat.{ℕ, suc, _+_, _≤_, _<_}
 use mathlib.Core.List.{List}
 use lib.ListN.{length}
-use lib.Ieee.{Float, binary64, ofBits}
-use Rattle.numbers_spec.specs.Arithmetic.{one}
+use lib.Ieee.{Float}
 use Rattle.numbers_spec.specs.Logarithm.{half}
 use Rattle.numbers_spec.specs.Values.{Number, AtMost, Between, Within}
 use Rattle.matcher_spec.specs.Energy.{withEnergies}
-use Rattle.matcher_spec.specs.Search.{recentMs, vertex, fraction, candidateOf, candidateIn}
+use Rattle.matcher_spec.specs.Search.{vertex, fraction, candidateOf, candidateIn}
 use Rattle.matcher_spec.specs.declared.types.Reference.{Reference}
 use Rattle.matcher_spec.specs.declared.types.Candidate.{Candidate}
-use Rattle.matcher_spec.specs.Words.{Every}
+use Rattle.numbers_spec.specs.Rows.{Every}
 use Rattle.matcher_spec.specs.ScoreBounds.{Comparable}
-
--- 10 ^ 13
-abbrev pub tenTrillion : Float
-tenTrillion = ofBits binary64 0x42a2309ce5400000
+use Rattle.matcher_spec.specs.Limits.{hopLeast, hopMost, farthest, trackMost}
 
 -- What lies within 2 ^ 43 is no NaN, and at most 10 ^ 13.
 pub record Modest (x : Float) : Type 0 where
   pub number : Number x
-  pub at-most : AtMost tenTrillion x
+  pub at-most : AtMost trackMost x
 
 abbrev pub WithinModest : Type 0
 WithinModest = (p : ℕ) (x : Float) → p ≤ 43 → Within 1 p x → Modest x
@@ -55,9 +51,9 @@ SoundModest = (c : Candidate) → SoundCandidate c → ModestCandidate c
 
 -- A hop from 1 to 1,000, and starts of the reference and of the query within ±10 ^ 12.
 pub record Timed (x : Reference) (start : Float) : Type 0 where
-  pub hop : Between one recentMs (x .«hop_ms»)
-  pub reference-start : Within (10 ^ 12) 0 (x .«start_ms»)
-  pub query-start : Within (10 ^ 12) 0 start
+  pub hop : Between hopLeast hopMost (x .«hop_ms»)
+  pub reference-start : Within (farthest) 0 (x .«start_ms»)
+  pub query-start : Within (farthest) 0 start
 
 -- The candidate of a range of places, one or more, at each of which the query lies within the reference.
 abbrev pub CandidateOfSound : Type 0

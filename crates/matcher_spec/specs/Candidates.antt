@@ -5,7 +5,7 @@ use mathlib.Core.List.{List, [], _∷_, _++_}
 use lib.ListN.{length, take, replicate}
 use lib.Ieee.{Float, binary64, lt, ofBits}
 use Rattle.numbers_spec.specs.Arithmetic.{_⊖_, zero⁺, absolute}
-use Rattle.matcher_spec.specs.Peaks.{most}
+use Rattle.matcher_spec.specs.Limits.{candidatesMost}
 use Rattle.matcher_spec.specs.declared.types.Candidate.{Candidate}
 use Rattle.matcher_spec.specs.declared.types.MatchResult.{MatchResult}
 
@@ -47,7 +47,7 @@ abbrev pub blank : Candidate
 blank = record { «offset_ms» = zero⁺; score = zero⁺; «first_half_score» = zero⁺; «second_half_score» = zero⁺; «recent_score» = zero⁺ }
 
 abbrev pub resultOf : List Candidate → MatchResult
-resultOf l = record { candidates = l ++ replicate (most - length l) blank; count = length l }
+resultOf l = record { candidates = l ++ replicate (candidatesMost - length l) blank; count = length l }
 
 -- The candidates of a result.
 abbrev pub listed : MatchResult → List Candidate

@@ -12,7 +12,7 @@ use Rattle.matcher_spec.specs.Centring.{centred, kept}
 use Rattle.matcher_spec.specs.Energy.{averages, allAverages}
 use Rattle.matcher_spec.specs.Index.{fineValues}
 use Rattle.matcher_spec.specs.Search.{queryValues}
-use Rattle.matcher_spec.specs.Words.{Every, F32}
+use Rattle.numbers_spec.specs.Rows.{Every, F32}
 
 -- x is a finite f32 and |x| ≤ 92; so |x| ≤ 2 ^ 7.
 pub record Small (x : Float) : Type 0 where

@@ -7,21 +7,21 @@ use Rattle.numbers_spec.specs.Arithmetic.{_⊗_}
 use Rattle.numbers_spec.specs.Rows.{tabulate, rows, row, sumTo}
 
 -- The sum of the squares of the first n values, in f64.
-abbrev pub energy : List Float → ℕ → Float
-energy v = sumTo (λ (i : ℕ). getD v i nan ⊗ getD v i nan)
+abbrev pub energyTo : List Float → ℕ → Float
+energyTo v = sumTo (λ (i : ℕ). getD v i nan ⊗ getD v i nan)
 
 -- A band's energies: the prefix sums of its squares, one more than it has values.
 abbrev pub energies : List Float → List Float
-energies v = tabulate (energy v) (length v + 1)
+energies v = tabulate (energyTo v) (length v + 1)
 
 -- Bands band after band: `count` values each, and the energies of each.
 pub record Bands : Type 0 where
   pub count : ℕ
   pub values : List Float
-  pub squares : List Float
+  pub energy : List Float
 
 abbrev pub bandsOf : ℕ → List Float → List Float → Bands
-bandsOf n v e = record { count = n; values = v; squares = e }
+bandsOf n v e = record { count = n; values = v; energy = e }
 
 -- Each band's energies, of bands with n values each.
 abbrev pub allEnergies : ℕ → ℕ → List Float → List Float
@@ -32,8 +32,8 @@ abbrev pub withEnergies : ℕ → ℕ → List Float → Bands
 withEnergies bands n v = bandsOf n v (allEnergies bands n v)
 
 -- Each band's whole energy.
-unfoldable pub totals : ℕ → Bands → List Float
-totals bands x = tabulate (λ (b : ℕ). getD (x .squares) (b * suc (x .count) + x .count) nan) bands
+unfoldable pub wholeEnergies : ℕ → Bands → List Float
+wholeEnergies bands x = tabulate (λ (b : ℕ). getD (x .energy) (b * suc (x .count) + x .count) nan) bands
 
 -- ---- averages by fours
 abbrev pub reduction : ℕ

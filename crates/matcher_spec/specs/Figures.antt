@@ -14,7 +14,8 @@ use Rattle.matcher_spec.specs.Energy.{Bands}
 use Rattle.matcher_spec.specs.Peaks.{peaks}
 use Rattle.matcher_spec.specs.Candidates.{marginOf}
 use Rattle.matcher_spec.specs.Index.{Matcher}
-use Rattle.matcher_spec.specs.Search.{Window, wholeSearch, localSearch}
+use Rattle.matcher_spec.specs.Search.{wholeSearch, localSearch}
+use Rattle.matcher_spec.specs.Features.{Features}
 use Rattle.matcher_spec.specs.declared.types.Reference.{Reference}
 use Rattle.matcher_spec.specs.declared.types.Candidate.{Candidate}
 
@@ -43,8 +44,8 @@ threeTenths = ofBits binary64 0x3fd3333333333333
 pub record P3At (hop : Float) : Type 0 where
   pub radius-13 : radius hop ≡ 13
   -- 42 frames give no candidates, in a whole and in a local search, whatever the matcher of this hop and the window;
-  pub none-from-42 : (m : Matcher) (w : Window) → m .reference .«hop_ms» ≡ hop → length (w .times) ≡ 42 → wholeSearch m w ≡ []
-  pub none-near-42 : (x : Reference) (fine : Bands) (w : Window) (lower upper : Float) → x .«hop_ms» ≡ hop → length (w .times) ≡ 42 → localSearch x fine w lower upper ≡ []
+  pub none-from-42 : (m : Matcher) (w : Features) → m .reference .«hop_ms» ≡ hop → length (w .times) ≡ 42 → wholeSearch m w ≡ []
+  pub none-near-42 : (x : Reference) (fine : Bands) (w : Features) (lower upper : Float) → x .«hop_ms» ≡ hop → length (w .times) ≡ 42 → localSearch x fine w lower upper ≡ []
   -- 43 are more than 2R + 16, and of a band's 43 values 17 are left centred.
   pub enough-43 : 2 * radius hop + 16 < 43
   pub leave-17 : (values : List Float) → length values ≡ 43 → length (kept (radius hop) (centred (radius hop) values)) ≡ 17

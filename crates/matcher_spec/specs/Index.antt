@@ -41,11 +41,11 @@ filled accepted part old = cond accepted (part ++ drop (length part) old) old
 
 -- The matcher that four lent buffers hold. A longer tail is no part of it.
 abbrev pub lentBands : ℕ → ℕ → List Float → List Float → Bands
-lentBands bands n values squares = bandsOf n (take (bands * n) values) (take (bands * suc n) squares)
+lentBands bands n values energy = bandsOf n (take (bands * n) values) (take (bands * suc n) energy)
 
 abbrev pub lentMatcher : Reference → List Float → List Float → List Float → List Float → Matcher
-lentMatcher x fine coarse fineSquares coarseSquares = record {
+lentMatcher x fine coarse fineEnergy coarseEnergy = record {
   reference = x;
-  fine = lentBands (x .bands) (x .frames) fine fineSquares;
-  coarse = lentBands (x .bands) (x .frames / reduction) coarse coarseSquares;
+  fine = lentBands (x .bands) (x .frames) fine fineEnergy;
+  coarse = lentBands (x .bands) (x .frames / reduction) coarse coarseEnergy;
 }

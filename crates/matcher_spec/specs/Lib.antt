@@ -1,4 +1,6 @@
 -- The matcher: definitions in document 01's order, then what is proved of them.
+pub mod Limits
+pub mod Features
 pub mod Timeline
 pub mod Centring
 pub mod Energy
@@ -7,7 +9,6 @@ pub mod Peaks
 pub mod Candidates
 pub mod Index
 pub mod Search
-pub mod Words
 pub mod PeakLaws
 pub mod ResultLaws
 pub mod FilledIndex

@@ -7,8 +7,9 @@ use lib.Dec.{T}
 use lib.ListN.{length, getD, take}
 use lib.Ieee.{Float, nan, lt, le}
 use Rattle.numbers_spec.specs.Values.{Number}
-use Rattle.matcher_spec.specs.Peaks.{firstMaximum, apart, nearTo, bestFree, most, peaks}
-use Rattle.matcher_spec.specs.Words.{Every}
+use Rattle.matcher_spec.specs.Peaks.{firstMaximum, apart, nearTo, bestFree, peaks}
+use Rattle.matcher_spec.specs.Limits.{candidatesMost}
+use Rattle.numbers_spec.specs.Rows.{Every}
 
 -- None of the scores is a NaN.
 abbrev pub Numbers : List Float → Type 0
@@ -49,7 +50,7 @@ peaksBefore s separation j = take j (peaks s separation)
 
 -- There are at most 8,
 abbrev pub PeaksFew : Type 0
-PeaksFew = (s : List Float) (separation : ℕ) → length (peaks s separation) ≤ most
+PeaksFew = (s : List Float) (separation : ℕ) → length (peaks s separation) ≤ candidatesMost
 
 -- each is a place of the scores,
 abbrev pub PeaksWithin : Type 0
@@ -69,4 +70,4 @@ PeakFirstLargest = (s : List Float) (separation j : ℕ) → Numbers s → j < l
 
 -- and where there are fewer than 8, no place is left free.
 abbrev pub PeaksExhaust : Type 0
-PeaksExhaust = (s : List Float) (separation i : ℕ) → length (peaks s separation) < most → i < length s → Free separation (peaks s separation) i → ⊥
+PeaksExhaust = (s : List Float) (separation i : ℕ) → length (peaks s separation) < candidatesMost → i < length s → Free separation (peaks s separation) i → ⊥

@@ -5,6 +5,7 @@ use mathlib.Core.List.{List, [], _∷_, _++_}
 use lib.Dec.{ltb, eqb}
 use lib.ListN.{length, getD}
 use lib.Ieee.{Float, nan, lt}
+use Rattle.matcher_spec.specs.Limits.{candidatesMost}
 
 -- The first of the largest among the first n scores: only a larger one takes the place of an earlier. 0 of none.
 unfoldable pub maximumTo : List Float → ℕ → ℕ
@@ -42,9 +43,5 @@ peaksFrom s separation (suc k) taken =
     cond (eqb (bestFree s separation taken) (length s)) taken
     (peaksFrom s separation k (taken ++ (bestFree s separation taken ∷ [])))
 
--- A search lists at most 8.
-abbrev pub most : ℕ
-most = 8
-
 abbrev pub peaks : List Float → ℕ → List ℕ
-peaks s separation = peaksFrom s separation most []
+peaks s separation = peaksFrom s separation candidatesMost []

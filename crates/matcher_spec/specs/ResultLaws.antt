@@ -12,10 +12,11 @@ use Rattle.numbers_spec.specs.Values.{Number, NotNegative}
 use Rattle.matcher_spec.specs.Timeline.{regular, validValues}
 use Rattle.matcher_spec.specs.Centring.{radius}
 use Rattle.matcher_spec.specs.Energy.{Bands}
-use Rattle.matcher_spec.specs.Peaks.{most}
+use Rattle.matcher_spec.specs.Limits.{candidatesMost}
 use Rattle.matcher_spec.specs.Candidates.{sorted, apartMs, independent, blank, marginOf}
 use Rattle.matcher_spec.specs.Index.{Matcher}
-use Rattle.matcher_spec.specs.Search.{Window, searchable, queryOf, queryStart, candidateIn, wholeSearch, localSearch}
+use Rattle.matcher_spec.specs.Search.{searchable, queryOf, queryStart, candidateIn, wholeSearch, localSearch}
+use Rattle.matcher_spec.specs.Features.{Features}
 use Rattle.matcher_spec.specs.declared.types.Reference.{Reference}
 use Rattle.matcher_spec.specs.declared.types.Candidate.{Candidate}
 
@@ -66,17 +67,17 @@ Apart750 = (l : List Candidate) → Pairs Far (independent l)
 -- ---- the searches
 -- At most 8 candidates, any two 750 apart;
 abbrev pub AtMostEight : Type 0
-AtMostEight = (m : Matcher) (w : Window) → length (wholeSearch m w) ≤ most
+AtMostEight = (m : Matcher) (w : Features) → length (wholeSearch m w) ≤ candidatesMost
 
 abbrev pub WholeApart : Type 0
-WholeApart = (m : Matcher) (w : Window) → Pairs Far (wholeSearch m w)
+WholeApart = (m : Matcher) (w : Features) → Pairs Far (wholeSearch m w)
 
 -- a local search finds one at most.
 abbrev pub AtMostOne : Type 0
-AtMostOne = (x : Reference) (fine : Bands) (w : Window) (lower upper : Float) → length (localSearch x fine w lower upper) ≤ 1
+AtMostOne = (x : Reference) (fine : Bands) (w : Features) (lower upper : Float) → length (localSearch x fine w lower upper) ≤ 1
 
 -- What a search that begins knows of its window.
-pub record Searchable (x : Reference) (w : Window) : Type 0 where
+pub record Searchable (x : Reference) (w : Features) : Type 0 where
   pub same-bands : w .bands ≡ x .bands
   pub on-time : regular (x .«hop_ms») (w .times) ≡ true
   pub long : 2 * radius (x .«hop_ms») + 16 < length (w .times)
@@ -84,25 +85,25 @@ pub record Searchable (x : Reference) (w : Window) : Type 0 where
   pub fits : length (w .times) - 2 * radius (x .«hop_ms») ≤ x .frames
 
 abbrev pub SearchableGives : Type 0
-SearchableGives = (x : Reference) (w : Window) → searchable x w ≡ true → Searchable x w
+SearchableGives = (x : Reference) (w : Features) → searchable x w ≡ true → Searchable x w
 
 -- P holds of every candidate of places from `low` to `high` at which the query lies within the reference, for a window that is searched.
-abbrev pub OfPlaces : Reference → Bands → Window → (Candidate → Type 0) → Type 0
+abbrev pub OfPlaces : Reference → Bands → Features → (Candidate → Type 0) → Type 0
 OfPlaces x fine w P =
     let r = radius (x .«hop_ms») in
     Searchable x w → (low high : ℕ) → low ≤ high → high ≤ x .frames - queryOf r w .count → P (candidateIn x fine (queryOf r w) (queryStart r w) low high)
 
 -- Then it holds of every candidate found: by a whole search,
 abbrev pub WholeFinds : Type 1
-WholeFinds = (m : Matcher) (w : Window) (P : Candidate → Type 0) → OfPlaces (m .reference) (m .fine) w P → All P (wholeSearch m w)
+WholeFinds = (m : Matcher) (w : Features) (P : Candidate → Type 0) → OfPlaces (m .reference) (m .fine) w P → All P (wholeSearch m w)
 
 -- and by a local one, in a reference of at most 2 ^ 53 frames: up to there a float holds each place.
 abbrev pub LocalFinds : Type 1
-LocalFinds = (x : Reference) (fine : Bands) (w : Window) (lower upper : Float) (P : Candidate → Type 0) → x .frames ≤ 2 ^ 53 → OfPlaces x fine w P → All P (localSearch x fine w lower upper)
+LocalFinds = (x : Reference) (fine : Bands) (w : Features) (lower upper : Float) (P : Candidate → Type 0) → x .frames ≤ 2 ^ 53 → OfPlaces x fine w P → All P (localSearch x fine w lower upper)
 
 -- A whole search lists the best first, where no candidate's score is a NaN.
 abbrev pub WholeSorted : Type 0
-WholeSorted = (m : Matcher) (w : Window) → OfPlaces (m .reference) (m .fine) w Scored → Pairs NoHigher (wholeSearch m w)
+WholeSorted = (m : Matcher) (w : Features) → OfPlaces (m .reference) (m .fine) w Scored → Pairs NoHigher (wholeSearch m w)
 
 -- ---- the margin
 -- None gives 0, a lone candidate's is its score, and of finite scores in order it is not negative.

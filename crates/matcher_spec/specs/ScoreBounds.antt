@@ -11,10 +11,10 @@ use lib.Ieee.Scale.{finite}
 use Rattle.numbers_spec.specs.Arithmetic.{_⊖_, _⊗_, _⊘_, atLeast}
 use Rattle.numbers_spec.specs.Root.{rootOf}
 use Rattle.numbers_spec.specs.Values.{Within, NotNegative, Normal}
-use Rattle.numbers_spec.specs.Rows.{row}
-use Rattle.matcher_spec.specs.Energy.{energy, Bands, withEnergies, totals}
+use Rattle.numbers_spec.specs.Rows.{row, Every}
+use Rattle.matcher_spec.specs.Energy.{energyTo, Bands, withEnergies, wholeEnergies}
 use Rattle.matcher_spec.specs.Scores.{dot, varianceFloor, termAt, partAt, correlationAt, scorePart}
-use Rattle.matcher_spec.specs.Words.{Every}
+use Rattle.matcher_spec.specs.Limits.{framesMost, windowMost, bandsMost}
 
 -- Every value of the row is finite and within ±2 ^ 7.
 abbrev pub Bounded : List Float → Type 0
@@ -23,15 +23,15 @@ Bounded = Every (Within 1 7)
 -- ---- energies, of a row of at most 65,535 values
 -- i squares sum up to at most i * 2 ^ 14,
 abbrev pub EnergyWithin : Type 0
-EnergyWithin = (v : List Float) → Bounded v → length v ≤ 65535 → (i : ℕ) → i ≤ length v → Within i 14 (energy v i)
+EnergyWithin = (v : List Float) → Bounded v → length v ≤ framesMost → (i : ℕ) → i ≤ length v → Within i 14 (energyTo v i)
 
 -- not below zero,
 abbrev pub EnergyNotNegative : Type 0
-EnergyNotNegative = (v : List Float) → Bounded v → length v ≤ 65535 → (i : ℕ) → i ≤ length v → NotNegative (energy v i)
+EnergyNotNegative = (v : List Float) → Bounded v → length v ≤ framesMost → (i : ℕ) → i ≤ length v → NotNegative (energyTo v i)
 
 -- and no less for more of them.
 abbrev pub EnergyGrows : Type 0
-EnergyGrows = (v : List Float) → Bounded v → length v ≤ 65535 → (i j : ℕ) → i ≤ j → j ≤ length v → T (le (energy v i) (energy v j))
+EnergyGrows = (v : List Float) → Bounded v → length v ≤ framesMost → (i j : ℕ) → i ≤ j → j ≤ length v → T (le (energyTo v i) (energyTo v j))
 
 -- So a part's energy, the difference of two, is finite and not negative.
 pub record PartEnergy (e : Float) : Type 0 where
@@ -39,11 +39,11 @@ pub record PartEnergy (e : Float) : Type 0 where
   pub not-negative : NotNegative e
 
 abbrev pub EnergyOfPart : Type 0
-EnergyOfPart = (v : List Float) → Bounded v → length v ≤ 65535 → (i j : ℕ) → i ≤ j → j ≤ length v → PartEnergy (energy v j ⊖ energy v i)
+EnergyOfPart = (v : List Float) → Bounded v → length v ≤ framesMost → (i j : ℕ) → i ≤ j → j ≤ length v → PartEnergy (energyTo v j ⊖ energyTo v i)
 
 -- ---- the dot product: its n products sum up to at most n * 2 ^ 14
 abbrev pub DotWithin : Type 0
-DotWithin = (l r : List Float) → Bounded l → Bounded r → length l ≤ length r → length l ≤ 65535 → Within (length l) 14 (dot l r)
+DotWithin = (l r : List Float) → Bounded l → Bounded r → length l ≤ length r → length l ≤ framesMost → Within (length l) 14 (dot l r)
 
 -- ---- the root that a dot product is divided by
 -- 2 ^ -10
@@ -57,7 +57,7 @@ pub record Weight (x : Float) : Type 0 where
 
 -- Such is every energy that counts as 0.001 a frame at least, of one frame or more.
 abbrev pub WeightOfEnergy : Type 0
-WeightOfEnergy = (n : ℕ) → 1 ≤ n → n ≤ 65535 → (e : Float) → Within 1 31 e → Weight (atLeast (varianceFloor n) e)
+WeightOfEnergy = (n : ℕ) → 1 ≤ n → n ≤ framesMost → (e : Float) → Within 1 31 e → Weight (atLeast (varianceFloor n) e)
 
 -- The product of two is a normal number above zero,
 abbrev pub ProductNormal : Type 0
@@ -80,10 +80,10 @@ pub record BoundedBands (bands n : ℕ) (values : List Float) : Type 0 where
 -- A reference of n frames and a query of `count`, as a search has them: 1 to 64 bands, at most 65,535 and 1,024 frames, and the query not empty.
 pub record Comparable (bands n count : ℕ) (values query : List Float) : Type 0 where
   pub some : 1 ≤ bands
-  pub few : bands ≤ 64
-  pub frames : n ≤ 65535
+  pub few : bands ≤ bandsMost
+  pub frames : n ≤ framesMost
   pub heard : 1 ≤ count
-  pub short : count ≤ 1024
+  pub short : count ≤ windowMost
   pub reference-bounded : BoundedBands bands n values
   pub query-bounded : BoundedBands bands count query
 
@@ -91,21 +91,21 @@ pub record Comparable (bands n count : ℕ) (values query : List Float) : Type 0
 -- The energy of the frames from `low` up to `high` in band b, at least the floor of n frames.
 abbrev pub weightOf : Bands → ℕ → ℕ → ℕ → ℕ → Float
 weightOf x n b low high =
-    let squares = row (suc (x .count)) (x .squares) b in
-    atLeast (varianceFloor n) (getD squares high nan ⊖ getD squares low nan)
+    let energy = row (suc (x .count)) (x .energy) b in
+    atLeast (varianceFloor n) (getD energy high nan ⊖ getD energy low nan)
 
 abbrev pub termRadicand : Bands → ℕ → List Float → List Float → ℕ → ℕ → Float
-termRadicand reference count query wholes start b = atLeast (varianceFloor count) (getD wholes b nan) ⊗ weightOf reference count b start (start + length (row count query b))
+termRadicand reference count query whole start b = atLeast (varianceFloor count) (getD whole b nan) ⊗ weightOf reference count b start (start + length (row count query b))
 
 abbrev pub partRadicand : Bands → Bands → ℕ → ℕ → ℕ → ℕ → Float
 partRadicand reference query start low high b = weightOf reference (high - low) b (start + low) (start + high) ⊗ weightOf query (high - low) b low high
 
 -- That these stand there:
 pub record Radicands : Type 0 where
-  pub of-term : (reference : Bands) (count : ℕ) (query wholes : List Float) (start b : ℕ) →
-      termAt reference count query wholes start b
+  pub of-term : (reference : Bands) (count : ℕ) (query whole : List Float) (start b : ℕ) →
+      termAt reference count query whole start b
       ≡ dot (take (length (row count query b)) (drop start (row (reference .count) (reference .values) b))) (row count query b)
-      ⊘ rootOf (termRadicand reference count query wholes start b)
+      ⊘ rootOf (termRadicand reference count query whole start b)
   pub of-part : (reference query : Bands) (start low high b : ℕ) →
       partAt reference query start low high b
       ≡ dot (take (high - low) (drop (start + low) (row (reference .count) (reference .values) b))) (take (high - low) (drop low (row (query .count) (query .values) b)))
@@ -113,7 +113,7 @@ pub record Radicands : Type 0 where
 
 -- In every band and at every place at which the query lies within the reference, and for every part that has a frame, it is a normal number above zero.
 pub record NormalRadicands (bands : ℕ) (reference query : Bands) : Type 0 where
-  pub of-term : (start b : ℕ) → start + query .count ≤ reference .count → b < bands → Normal (termRadicand reference (query .count) (query .values) (totals bands query) start b)
+  pub of-term : (start b : ℕ) → start + query .count ≤ reference .count → b < bands → Normal (termRadicand reference (query .count) (query .values) (wholeEnergies bands query) start b)
   pub of-part : (start low high b : ℕ) → low < high → high ≤ query .count → start + high ≤ reference .count → b < bands → Normal (partRadicand reference query start low high b)
 
 abbrev pub RadicandsNormal : Type 0
@@ -124,7 +124,7 @@ RadicandsNormal =
 abbrev pub TermWithin : Type 0
 TermWithin =
     (bands n count : ℕ) (values query : List Float) → Comparable bands n count values query → (start b : ℕ) → start + count ≤ n → b < bands
-    → Within 1 34 (termAt (withEnergies bands n values) count query (totals bands (withEnergies bands count query)) start b)
+    → Within 1 34 (termAt (withEnergies bands n values) count query (wholeEnergies bands (withEnergies bands count query)) start b)
 
 abbrev pub PartWithin : Type 0
 PartWithin =
@@ -136,7 +136,7 @@ PartWithin =
 abbrev pub CorrelationWithin : Type 0
 CorrelationWithin =
     (bands n count : ℕ) (values query : List Float) → Comparable bands n count values query → (start : ℕ) → start + count ≤ n
-    → Within 1 40 (correlationAt bands (withEnergies bands n values) count query (totals bands (withEnergies bands count query)) start)
+    → Within 1 40 (correlationAt bands (withEnergies bands n values) count query (wholeEnergies bands (withEnergies bands count query)) start)
 
 abbrev pub ScorePartWithin : Type 0
 ScorePartWithin =

@@ -41,20 +41,20 @@ varianceFloor n = real n ⊗ thousandth
 
 -- What a band adds to the score of the place `start`: the dot product over the root of the product of the energies, the query's first.
 unfoldable pub bandTerm : List Float → List Float → List Float → Float → Float → ℕ → Float
-bandTerm reference squares query floor queryEnergy start =
+bandTerm reference energy query floor wholeEnergy start =
     dot (take (length query) (drop start reference)) query
-    ⊘ rootOf (queryEnergy ⊗ atLeast floor (getD squares (start + length query) nan ⊖ getD squares start nan))
+    ⊘ rootOf (wholeEnergy ⊗ atLeast floor (getD energy (start + length query) nan ⊖ getD energy start nan))
 
 -- What band b adds at a place, where `wholes` are the query's whole energies.
 unfoldable pub termAt : Bands → ℕ → List Float → List Float → ℕ → ℕ → Float
-termAt reference count query wholes start b =
-    bandTerm (row (reference .count) (reference .values) b) (row (suc (reference .count)) (reference .squares) b) (row count query b)
-    (varianceFloor count) (atLeast (varianceFloor count) (getD wholes b nan)) start
+termAt reference count query whole start b =
+    bandTerm (row (reference .count) (reference .values) b) (row (suc (reference .count)) (reference .energy) b) (row count query b)
+    (varianceFloor count) (atLeast (varianceFloor count) (getD whole b nan)) start
 
-module _ (bands : ℕ) (reference : Bands) (count : ℕ) (query wholes : List Float) where
+module _ (bands : ℕ) (reference : Bands) (count : ℕ) (query whole : List Float) where
   -- The score of a place: the sum over the bands times 1 / bands.
   unfoldable pub correlationAt : ℕ → Float
-  correlationAt start = sumTo (termAt reference count query wholes start) bands ⊗ (one ⊘ real bands)
+  correlationAt start = sumTo (termAt reference count query whole start) bands ⊗ (one ⊘ real bands)
 
   -- The scores of n places from `low` on.
   unfoldable pub correlations : ℕ → ℕ → List Float
@@ -63,16 +63,16 @@ module _ (bands : ℕ) (reference : Bands) (count : ℕ) (query wholes : List Fl
 -- ---- the score of a part of the query, from frame `low` up to `high`
 -- A band's part: the reference's energy first.
 unfoldable pub partTerm : List Float → List Float → List Float → List Float → ℕ → ℕ → ℕ → Float
-partTerm reference squares query querySquares start low high =
+partTerm reference energy query queryEnergy start low high =
     dot (take (high - low) (drop (start + low) reference)) (take (high - low) (drop low query))
-    ⊘ rootOf (atLeast (varianceFloor (high - low)) (getD squares (start + high) nan ⊖ getD squares (start + low) nan)
-    ⊗ atLeast (varianceFloor (high - low)) (getD querySquares high nan ⊖ getD querySquares low nan))
+    ⊘ rootOf (atLeast (varianceFloor (high - low)) (getD energy (start + high) nan ⊖ getD energy (start + low) nan)
+    ⊗ atLeast (varianceFloor (high - low)) (getD queryEnergy high nan ⊖ getD queryEnergy low nan))
 
 -- What band b adds to it.
 unfoldable pub partAt : Bands → Bands → ℕ → ℕ → ℕ → ℕ → Float
 partAt reference query start low high b =
-    partTerm (row (reference .count) (reference .values) b) (row (suc (reference .count)) (reference .squares) b)
-    (row (query .count) (query .values) b) (row (suc (query .count)) (query .squares) b) start low high
+    partTerm (row (reference .count) (reference .values) b) (row (suc (reference .count)) (reference .energy) b)
+    (row (query .count) (query .values) b) (row (suc (query .count)) (query .energy) b) start low high
 
 -- The sum over the bands divided by their number: not times 1 / bands, as above.
 unfoldable pub scorePart : ℕ → Bands → Bands → ℕ → ℕ → ℕ → Float

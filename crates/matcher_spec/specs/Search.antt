@@ -13,29 +13,22 @@ use Rattle.numbers_spec.specs.Whole.{wholeAbove, wholeBelow}
 use Rattle.numbers_spec.specs.Rows.{rows, row}
 use Rattle.matcher_spec.specs.Timeline.{accepts, validValues}
 use Rattle.matcher_spec.specs.Centring.{radius, centred, kept}
-use Rattle.matcher_spec.specs.Energy.{Bands, withEnergies, reduced, reduction, totals}
+use Rattle.matcher_spec.specs.Energy.{Bands, withEnergies, reduced, reduction, wholeEnergies}
 use Rattle.matcher_spec.specs.Scores.{correlations, scorePart}
 use Rattle.matcher_spec.specs.Peaks.{firstMaximum, peaks}
 use Rattle.matcher_spec.specs.Candidates.{sorted, independent, apartMs}
 use Rattle.matcher_spec.specs.Index.{Matcher, lentBands}
 use Rattle.matcher_spec.specs.declared.types.Reference.{Reference}
 use Rattle.matcher_spec.specs.declared.types.Candidate.{Candidate}
+use Rattle.matcher_spec.specs.Features.{Features}
 
 -- ---- the window
-pub record Window : Type 0 where
-  pub bands : ℕ
-  pub times : List Float
-  pub values : List Float
-
-abbrev pub windowOf : ℕ → List Float → List Float → Window
-windowOf bands times values = record { bands = bands; times = times; values = values }
-
 -- So many centred frames are too few.
 abbrev pub tooFew : ℕ
 tooFew = 16
 
 -- Whether a search begins: an accepted timeline, more than 2R + 16 frames, values that a band may hold, and no more centred frames than the reference has.
-unfoldable pub searchable : Reference → Window → Bool
+unfoldable pub searchable : Reference → Features → Bool
 searchable x w =
     let r = radius (x .«hop_ms») in
     accepts (x .bands) (x .«hop_ms») (w .bands) (w .times)
@@ -46,11 +39,11 @@ searchable x w =
 abbrev pub queryValues : ℕ → ℕ → ℕ → List Float → List Float
 queryValues r bands n values = rows (λ (b : ℕ). kept r (centred r (row n values b))) bands
 
-unfoldable pub queryOf : ℕ → Window → Bands
+unfoldable pub queryOf : ℕ → Features → Bands
 queryOf r w = withEnergies (w .bands) (length (w .times) - 2 * r) (queryValues r (w .bands) (length (w .times)) (w .values))
 
 -- The time of the query's first frame.
-abbrev pub queryStart : ℕ → Window → Float
+abbrev pub queryStart : ℕ → Features → Float
 queryStart r w = getD (w .times) r nan
 
 -- ---- a candidate
@@ -104,7 +97,7 @@ module _ (x : Reference) (fine query : Bands) (start : Float) where
   -- The candidate of the places from `low` to `high`, both included.
   unfoldable pub candidateIn : ℕ → ℕ → Candidate
   candidateIn low high =
-      candidateOf low (correlations (x .bands) fine (query .count) (query .values) (totals (x .bands) query) low (high - low + 1))
+      candidateOf low (correlations (x .bands) fine (query .count) (query .values) (wholeEnergies (x .bands) query) low (high - low + 1))
 
   -- The last place at which the query lies within the reference.
   abbrev pub maximumStart : ℕ
@@ -145,7 +138,7 @@ module _ (x : Reference) (fine query : Bands) (start : Float) where
 unfoldable pub coarseScores : ℕ → Bands → Bands → List Float
 coarseScores bands coarse query =
     let small = reduced bands query in
-    correlations bands coarse (small .count) (small .values) (totals bands small) 0 (coarse .count - small .count + 1)
+    correlations bands coarse (small .count) (small .values) (wholeEnergies bands small) 0 (coarse .count - small .count + 1)
 
 -- Peaks are 750 / (4 × hop) averaged places apart, at least 1.
 unfoldable pub separation : Float → ℕ
@@ -158,24 +151,24 @@ wholeFound m query start =
     independent (sorted (candidatesAt x (m .fine) query start (peaks (coarseScores (x .bands) (m .coarse) query) (separation (x .«hop_ms»)))))
 
 -- ---- the searches
-unfoldable pub wholeSearch : Matcher → Window → List Candidate
+unfoldable pub wholeSearch : Matcher → Features → List Candidate
 wholeSearch m w =
     let r = radius (m .reference .«hop_ms») in
     cond (searchable (m .reference) w) (wholeFound m (queryOf r w) (queryStart r w)) []
 
-unfoldable pub localSearch : Reference → Bands → Window → Float → Float → List Candidate
+unfoldable pub localSearch : Reference → Bands → Features → Float → Float → List Candidate
 localSearch x fine w lower upper =
     let r = radius (x .«hop_ms») in
     cond (searchable x w) (localFound x fine (queryOf r w) (queryStart r w) lower upper) []
 
 -- ---- a query that is filled once for several searches
 -- The window's query stands at the fronts of two working buffers: its values in one, its energies in the other.
-abbrev pub QueryIn : Reference → Window → List Float → List Float → Type 0
+abbrev pub QueryIn : Reference → Features → List Float → List Float → Type 0
 QueryIn x w work32 work64 =
     let r = radius (x .«hop_ms») in
     lentBands (x .bands) (length (w .times) - 2 * r) work32 work64 ≡ queryOf r w
 
 -- What filling answers and leaves: whether the window is searchable, and if it is, its query.
-pub record FilledQuery (x : Reference) (w : Window) (filled : Bool) (work32 work64 : List Float) : Type 0 where
+pub record FilledQuery (x : Reference) (w : Features) (filled : Bool) (work32 work64 : List Float) : Type 0 where
   pub told : filled ≡ searchable x w
   pub query : filled ≡ true → QueryIn x w work32 work64

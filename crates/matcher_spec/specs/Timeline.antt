@@ -14,15 +14,15 @@ abbrev pub twentieth : Float
 twentieth = ofBits binary64 0x3fa999999999999a
 
 -- a is off b by less than hop × 0.05.
-abbrev pub near : Float → Float → Float → Bool
-near hop a b = lt (absolute (a ⊖ b)) (hop ⊗ twentieth)
+abbrev pub withinTolerance : Float → Float → Float → Bool
+withinTolerance hop a b = lt (absolute (a ⊖ b)) (hop ⊗ twentieth)
 
 -- The step to frame i is near hop, and its time near start + i × hop.
 unfoldable pub onTime : Float → List Float → ℕ → Bool
 onTime hop times i =
     let t = getD times i nan in
     let step = t ⊖ getD times (i - 1) nan in
-    finite step && (near hop step hop && near hop t (getD times 0 nan ⊕ real i ⊗ hop))
+    finite step && (withinTolerance hop step hop && withinTolerance hop t (getD times 0 nan ⊕ real i ⊗ hop))
 
 -- A regular timeline: two frames or more, each on time.
 unfoldable pub regular : Float → List Float → Bool

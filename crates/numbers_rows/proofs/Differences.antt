@@ -13,8 +13,8 @@ use lib.Ieee.Exact.{HasValue, round-exact}
 use lib.Ieee.Fits.{down-pos, two, two-le-pos}
 use lib.Ieee.Order.{transfer}
 use lib.Ieee.Scale.{finite, overflow, round-same}
-use Rattle.numbers_spec.specs.Arithmetic.{atLeast}
-use Rattle.numbers_spec.specs.Values.{Units, magnitude}
+use Rattle.numbers_spec.specs.Arithmetic.{atLeast, magnitude}
+use Rattle.numbers_spec.specs.Values.{Units}
 use Rattle.numbers_spec.proofs.ExactValues.{rounded-above}
 use Rattle.numbers_spec.proofs.Order.{P, N}
 use Rattle.numbers_spec.proofs.Placed.{placed}

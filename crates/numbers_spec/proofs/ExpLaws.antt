@@ -13,10 +13,10 @@ use lib.Ieee.Bits.{is-true, is-false}
 use lib.Ieee.Order.{round-mono}
 use lib.Ieee.Positive.{positive, positive-finite, cross→le, between, mul-mono}
 use lib.Pow.{pow-pos, pow-mono}
-use Rattle.numbers_spec.specs.Arithmetic.{_⊕_, _⊗_, _⊘_, zero⁺, one, two}
+use Rattle.numbers_spec.specs.Arithmetic.{_⊕_, _⊗_, _⊘_, zero⁺, one, two, magnitude}
 use Rattle.numbers_spec.specs.Exponential.{limit, limit⁻, ln10, twoTo, expSeries, expWhole, expRest, expAt, expOf, tenTo}
 use Rattle.numbers_spec.proofs.Value.{finite-no-nan}
-use Rattle.numbers_spec.specs.Values.{Number, magnitude, AtMost, Between, Monotone}
+use Rattle.numbers_spec.specs.Values.{Number, AtMost, Between, Monotone}
 use Rattle.numbers_spec.specs.ExpLaws.{restMost, sumLeast, sumMost, ExpSeriesBounded, Exponential, ExpLaws, tenMost, tenMost⁻, TenToLaws}
 use Rattle.numbers_spec.proofs.Order.{P, le-self, lt→le, not-lt→le, le→not-lt, le-transitive, wider, at-most-between, between-at-most}
 use Rattle.numbers_spec.proofs.Rounding.{magnitude-round}

@@ -14,10 +14,10 @@ use lib.Ieee.Exact.{HasValue}
 use lib.Ieee.Back.{round-whole}
 use lib.Ieee.Order.{round-mono}
 use lib.Ieee.Scale.{finite}
-use Rattle.numbers_spec.specs.Arithmetic.{_⊕_, _⊖_, _⊗_, zero⁺}
+use Rattle.numbers_spec.specs.Arithmetic.{_⊕_, _⊖_, _⊗_, zero⁺, magnitude}
 use Rattle.numbers_spec.specs.Whole.{halfUp, wholeNearest}
 use Rattle.numbers_spec.specs.Exponential.{limit, limit⁻, log2e, hi, lo, expWhole, expRest}
-use Rattle.numbers_spec.specs.Values.{magnitude, AtMost, Between}
+use Rattle.numbers_spec.specs.Values.{AtMost, Between}
 use Rattle.numbers_spec.specs.ExpLaws.{restMost, ExpReduces}
 use Rattle.numbers_spec.proofs.Order.{P, Below, le→below, cross, le-self, le-transitive, between-finite, at-most-between, between-at-most}
 use Rattle.numbers_spec.proofs.Rounding.{sided, round-sided, magnitude-round}

@@ -9,11 +9,11 @@ use lib.Dec.{T, not-T}
 use lib.Ieee.{Float, nan, inf, fin, binary32, binary64, up, down, add, mul, div, neg, le, ofBits, ofInt, fits, round, isNan}
 use lib.Ieee.Fits.{add-fits}
 use lib.Ieee.Scale.{finite}
-use Rattle.numbers_spec.specs.Arithmetic.{_⊕_, _⊘_, zero⁺, one, two}
+use Rattle.numbers_spec.specs.Arithmetic.{_⊕_, _⊘_, zero⁺, one, two, magnitude}
 use Rattle.numbers_spec.specs.Narrow.{nearestF32}
 use Rattle.numbers_spec.specs.Logarithm.{smallestNormal, seriesMost, logSeries, logTwice, logOf, log1pWide, log1pOf}
 use Rattle.numbers_spec.proofs.Value.{finite-no-nan}
-use Rattle.numbers_spec.specs.Values.{Normal, magnitude, AtMost, NotNegative, Between}
+use Rattle.numbers_spec.specs.Values.{Normal, AtMost, NotNegative, Between}
 use Rattle.numbers_spec.specs.LogLaws.{logMost₃₂, beyond₃₂, log1pBeyond, Log1pFinite, Log1pZeros}
 use Rattle.numbers_spec.proofs.Order.{P, N, below→le, le-transitive, not-le→lt, between-finite, between-at-most, at-most-high, at-most-finite, magnitude-above, positive-above}
 use Rattle.numbers_spec.proofs.Sums.{add-between}

@@ -7,11 +7,11 @@ use lib.Ieee.{Float, nan, inf, fin, binary64, add, sub, mul, div, neg, lt, le, o
 use lib.Ieee.Bits.{is-true}
 use lib.Ieee.Positive.{positive, positive-finite}
 use lib.Ieee.Scale.{finite}
-use Rattle.numbers_spec.specs.Arithmetic.{_⊕_, _⊖_, _⊗_, _⊘_, zero⁺, one, two}
+use Rattle.numbers_spec.specs.Arithmetic.{_⊕_, _⊖_, _⊗_, _⊘_, zero⁺, one, two, magnitude}
 use Rattle.numbers_spec.specs.Exponential.{hi, lo, ln10}
 use Rattle.numbers_spec.specs.Logarithm.{smallestNormal, sqrt2, half, mantissa, exponent, logTwice, logAt, logHalved, logOf, log10Of}
 use Rattle.numbers_spec.proofs.Value.{finite-no-nan}
-use Rattle.numbers_spec.specs.Values.{Normal, magnitude, AtMost, NotNegative, Between}
+use Rattle.numbers_spec.specs.Values.{Normal, AtMost, NotNegative, Between}
 use Rattle.numbers_spec.specs.LogLaws.{logMost, logMost⁻, logMost₃₂, log10Most, LogFinite, LogNotNegative, LogMost, Log10Finite, Log10Infinite}
 use Rattle.numbers_spec.proofs.Order.{le-transitive, lt→le, not-lt→le, wider, between-finite, at-most-between, between-at-most, at-most-finite, magnitude-above, positive-above}
 use Rattle.numbers_spec.proofs.Sums.{sub-mono, sub-not-negative, add-mono, add-between}

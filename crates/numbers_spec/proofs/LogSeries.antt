@@ -7,10 +7,10 @@ use lib.IntN.{pos, negsuc}
 use lib.Dec.{T}
 use lib.Ieee.{Float, fin, binary64, add, mul, div, le, ofInt, neg}
 use lib.Ieee.Scale.{finite}
-use Rattle.numbers_spec.specs.Arithmetic.{_⊕_, _⊗_, _⊘_, zero⁺, one, two}
+use Rattle.numbers_spec.specs.Arithmetic.{_⊕_, _⊗_, _⊘_, zero⁺, one, two, magnitude}
 use Rattle.numbers_spec.specs.Logarithm.{logSeries, logTwice}
 use Rattle.numbers_spec.proofs.Value.{finite-no-nan}
-use Rattle.numbers_spec.specs.Values.{magnitude, AtMost, NotNegative, Between}
+use Rattle.numbers_spec.specs.Values.{AtMost, NotNegative, Between}
 use Rattle.numbers_spec.proofs.Order.{le-transitive, wider, between-finite, between-at-most, at-most-high, at-most-finite, magnitude-above, positive-above}
 use Rattle.numbers_spec.proofs.Sums.{add-between}
 use Rattle.numbers_spec.proofs.Products.{mul-at-most, div-at-most, div-not-negative, mul-not-negative, square-not-negative, mul-between}

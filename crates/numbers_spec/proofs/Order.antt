@@ -12,10 +12,10 @@ use lib.Ieee.Fits.{down-pos, eq→eqb, and-i, and-l, and-r}
 use lib.Ieee.Exact.{HasValue}
 use lib.Ieee.Positive.{positive, above, above-of-le}
 use lib.Ieee.Scale.{finite}
-use Rattle.numbers_spec.specs.Arithmetic.{zero⁺}
+use Rattle.numbers_spec.specs.Arithmetic.{zero⁺, magnitude}
 use Rattle.numbers_spec.proofs.Sign.{neg-neg}
 use Rattle.numbers_spec.proofs.Value.{finite-no-nan}
-use Rattle.numbers_spec.specs.Values.{Number, Den, magnitude, AtMost, NotNegative, Between, Monotone}
+use Rattle.numbers_spec.specs.Values.{Number, Den, AtMost, NotNegative, Between, Monotone}
 use Rattle.numbers_spec.specs.FloatLaws.{LeTransitive, LeReflexive, LeTotal, LtGivesLe, LeForbidsLt, NotLtGivesLe, NotLeGivesLt, BetweenFinite, NegAntitone, AtMostGivesBetween, BetweenGivesAtMost, AtMostFinite}
 
 -- ---- ±a as P - N

@@ -10,9 +10,9 @@ use lib.Ieee.{Float, nan, inf, fin, Format, up, down, unlike, round, mul, div, l
 use lib.Ieee.Fits.{up-pos}
 use lib.Ieee.Positive.{positive, positive-finite}
 use lib.Ieee.Scale.{finite}
-use Rattle.numbers_spec.specs.Arithmetic.{zero⁺}
+use Rattle.numbers_spec.specs.Arithmetic.{zero⁺, magnitude}
 use Rattle.numbers_spec.proofs.Value.{finite-no-nan}
-use Rattle.numbers_spec.specs.Values.{Number, Den, magnitude, AtMost, NotNegative, Monotone}
+use Rattle.numbers_spec.specs.Values.{Number, Den, AtMost, NotNegative, Monotone}
 use Rattle.numbers_spec.specs.FloatLaws.{MulMonotone, MulMonotoneBy, MulMonotoneByPositive, MulNumber, DivMonotone, MulNotNegative, DivNotNegative, SquareNotNegative, MulAtMost, DivAtMost, MulBetween, MulBetweenBy}
 use Rattle.numbers_spec.proofs.Order.{P, N, Pos, Neg, den-pos, times, le→below, le-self, le-transitive, monotone-of-finite, between-finite, magnitude-finite, magnitude-not-negative, at-most-finite, no-negative-part, positive-above, positive-not-negative}
 use Rattle.numbers_spec.proofs.Rounding.{Is, Rounded, rounded-mono, zeros, round-sided, sided-number, sided-not-negative, magnitude-round}

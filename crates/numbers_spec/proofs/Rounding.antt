@@ -10,9 +10,9 @@ use lib.Ieee.{Float, nan, inf, fin, Format, binary32, binary64, prec, emax, low,
 use lib.Ieee.Fits.{round-is}
 use lib.Ieee.Order.{round-mono}
 use lib.Ieee.Scale.{round-same}
-use Rattle.numbers_spec.specs.Arithmetic.{zero⁺}
+use Rattle.numbers_spec.specs.Arithmetic.{zero⁺, magnitude}
 use Rattle.numbers_spec.proofs.Sign.{neg-round}
-use Rattle.numbers_spec.specs.Values.{Number, magnitude, NotNegative}
+use Rattle.numbers_spec.specs.Values.{Number, NotNegative}
 use Rattle.numbers_spec.proofs.Order.{P, N, below→le, le-transitive, neg-le, magnitude-neg}
 
 -- ---- x lies on the side s of zero, and is no NaN

@@ -9,8 +9,8 @@ use lib.Ieee.{Float, nan, inf, fin, Format, up, down, round, sum, add, sub, neg}
 use lib.Ieee.Fits.{down-pos}
 use lib.Ieee.Order.{round-mono}
 use lib.Ieee.Scale.{finite}
-use Rattle.numbers_spec.specs.Arithmetic.{zero⁺}
-use Rattle.numbers_spec.specs.Values.{Den, magnitude, AtMost}
+use Rattle.numbers_spec.specs.Arithmetic.{zero⁺, magnitude}
+use Rattle.numbers_spec.specs.Values.{Den, AtMost}
 use Rattle.numbers_spec.specs.FloatLaws.{AddMonotone, SubMonotone, SubAntitone, SubSelf, SubNotNegative, DistanceSymmetric, AddNotNegative, AddAtMost, SubAtMost, AddBetween}
 use Rattle.numbers_spec.proofs.Order.{P, N, P-mul, N-mul, Pos, Neg, den-pos, times, le→below, le-self, le-transitive, neg-le, neg-finite, between-finite, magnitude-finite, magnitude-neg, at-most-finite}
 use Rattle.numbers_spec.proofs.Rounding.{Is, Rounded, rounded-mono, zeros, magnitude-round, is-le}

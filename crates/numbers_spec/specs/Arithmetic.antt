@@ -2,7 +2,7 @@
 use Prim.Native.Nat.{ℕ}
 use mathlib.Core.Bool.{cond, false}
 use lib.IntN.{pos}
-use lib.Ieee.{Float, fin, binary64, add, sub, mul, div, neg, lt, ofInt, toUnsigned}
+use lib.Ieee.{Float, nan, inf, fin, binary64, add, sub, mul, div, neg, lt, isNan, ofInt, toUnsigned}
 
 infixl 6 _⊕_ _⊖_
 infixl 7 _⊗_ _⊘_
@@ -49,3 +49,13 @@ atLeast floor x = cond (lt floor x) x floor
 -- x where it is below the cap, else the cap, for a NaN too: `x.min(cap)`.
 abbrev pub atMost : Float → Float → Float
 atMost cap x = cond (lt x cap) x cap
+
+-- `x.min(y)`: a NaN beside a number is passed over.
+unfoldable pub least : Float → Float → Float
+least x y = cond (isNan y) x (atMost y x)
+
+-- |x|, of a zero too: +0.
+unfoldable pub magnitude : Float → Float
+magnitude nan = nan
+magnitude (inf s) = inf false
+magnitude (fin s m e) = fin false m e

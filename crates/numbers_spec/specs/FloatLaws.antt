@@ -11,9 +11,9 @@ use lib.ListN.{length}
 use lib.Ieee.{Float, fin, Format, binary32, add, sub, mul, div, neg, lt, le, fits}
 use lib.Ieee.Positive.{positive}
 use lib.Ieee.Scale.{finite}
-use Rattle.numbers_spec.specs.Arithmetic.{zero⁺}
+use Rattle.numbers_spec.specs.Arithmetic.{zero⁺, magnitude}
 use Rattle.numbers_spec.specs.Narrow.{nearestF32}
-use Rattle.numbers_spec.specs.Values.{Number, size, Den, magnitude, AtMost, NotNegative, Between, Monotone, Within, Holds, Each, running}
+use Rattle.numbers_spec.specs.Values.{Number, size, Den, AtMost, NotNegative, Between, Monotone, Within, Holds, Each, running}
 
 -- ---- the order
 -- x ≤ y and y ≤ z give x ≤ z, on all values.

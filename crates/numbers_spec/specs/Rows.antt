@@ -1,9 +1,10 @@
 -- Lists by a rule for their elements, flat lists by their rows, and sums in order. Definitions only.
-use Prim.Native.Nat.{ℕ, zero, suc, _*_}
-use mathlib.Core.Bool.{Bool, true, _&&_}
+use Prim.Native.Nat.{ℕ, zero, suc, _*_, _<_}
+use mathlib.Core.Bool.{Bool, true, cond, _&&_}
 use mathlib.Core.List.{List, [], _∷_, _++_, map}
-use lib.ListN.{take, drop}
-use lib.Ieee.{Float}
+use lib.Dec.{T}
+use lib.ListN.{length, getD, take, drop}
+use lib.Ieee.{Float, nan, binary32, fits}
 use Rattle.numbers_spec.specs.Arithmetic.{_⊕_, zero⁺}
 use Rattle.numbers_spec.specs.Root.{rootOf}
 use Rattle.numbers_spec.specs.Logarithm.{log1pOf}
@@ -31,6 +32,24 @@ allTo p (suc n) = allTo p n && p n
 unfoldable pub sumTo : (ℕ → Float) → ℕ → Float
 sumTo t zero = zero⁺
 sumTo t (suc n) = sumTo t n ⊕ t n
+
+-- For how many of 0, 1, .. n - 1 p holds.
+unfoldable pub tally : (ℕ → Bool) → ℕ → ℕ
+tally p zero = 0
+tally p (suc n) = cond (p n) (suc (tally p n)) (tally p n)
+
+-- ---- lists of floats
+-- Every number of the list passes.
+unfoldable pub every : (Float → Bool) → List Float → Bool
+every p l = allTo (λ (i : ℕ). p (getD l i nan)) (length l)
+
+-- P holds of each value of the list.
+abbrev pub Every : (Float → Type 0) → List Float → Type 0
+Every P l = (i : ℕ) → i < length l → P (getD l i nan)
+
+-- x is an f32.
+abbrev pub F32 : Float → Type 0
+F32 x = T (fits binary32 x)
 
 -- ---- functions of each number of a row
 -- The roots of a row of numbers.

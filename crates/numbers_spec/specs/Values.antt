@@ -1,12 +1,12 @@
 -- Words of the statements: values as whole numbers, bounds, and running sums. Definitions only.
 use Prim.Native.Nat.{ℕ, suc, _+_, _-_, _*_, _^_, _≤_, _<_}
-use mathlib.Core.Bool.{Bool, Bool·beq, cond, false, not}
+use mathlib.Core.Bool.{Bool, Bool·beq, cond, not}
 use mathlib.Core.List.{List, [], _∷_}
 use lib.Dec.{T}
 use lib.Ieee.{Float, nan, inf, fin, Format, binary64, prec, emax, low, up, down, add, le, fits, isNan}
 use lib.Ieee.Exact.{HasValue}
 use lib.Ieee.Scale.{finite}
-use Rattle.numbers_spec.specs.Arithmetic.{zero⁺}
+use Rattle.numbers_spec.specs.Arithmetic.{zero⁺, magnitude}
 use Rattle.numbers_spec.specs.Logarithm.{smallestNormal}
 
 -- x is no NaN.
@@ -40,12 +40,6 @@ abbrev pub distance : Bool → ℕ → Bool → ℕ → ℕ
 distance s a t b = cond (Bool·beq s t) ((a - b) + (b - a)) (a + b)
 
 -- ---- bounds that are floats
--- |x|
-unfoldable pub magnitude : Float → Float
-magnitude nan = nan
-magnitude (inf s) = inf false
-magnitude (fin s m e) = fin false m e
-
 -- |x| ≤ b
 abbrev pub AtMost : Float → Float → Type 0
 AtMost b x = T (le (magnitude x) b)

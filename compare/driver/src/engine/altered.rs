@@ -68,16 +68,16 @@ fn alter(random: &mut Random, both: &mut Both) {
         match random.below(4) {
             0 => spoil32(random, &mut index.fine),
             1 => spoil32(random, &mut index.coarse),
-            2 => spoil64(random, &mut index.fine_squares),
-            _ => spoil64(random, &mut index.coarse_squares),
+            2 => spoil64(random, &mut index.fine_energy),
+            _ => spoil64(random, &mut index.coarse_energy),
         }
     }
     let rows = both.theirs.index().unwrap_or_default();
     both.theirs.alter(&Rows {
         fine: index.fine[..rows.fine.len()].to_vec(),
         coarse: index.coarse[..rows.coarse.len()].to_vec(),
-        fine_squares: index.fine_squares[..rows.fine_squares.len()].to_vec(),
-        coarse_squares: index.coarse_squares[..rows.coarse_squares.len()].to_vec(),
+        fine_energy: index.fine_energy[..rows.fine_energy.len()].to_vec(),
+        coarse_energy: index.coarse_energy[..rows.coarse_energy.len()].to_vec(),
     });
     both.ours.alter(index);
 }

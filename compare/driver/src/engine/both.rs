@@ -129,8 +129,8 @@ impl Both {
         let index = &self.ours.index;
         let same = begins(&index.fine, &rows.fine, OLD as f32)
             && begins(&index.coarse, &rows.coarse, OLD as f32)
-            && begins(&index.fine_squares, &rows.fine_squares, OLD)
-            && begins(&index.coarse_squares, &rows.coarse_squares, OLD);
+            && begins(&index.fine_energy, &rows.fine_energy, OLD)
+            && begins(&index.coarse_energy, &rows.coarse_energy, OLD);
         match same {
             true => Ok(()),
             false => Err("the index differs".into()),

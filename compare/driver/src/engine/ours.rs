@@ -23,10 +23,10 @@ unsafe extern "C" {
         fine_len: usize,
         coarse: *mut f32,
         coarse_len: usize,
-        fine_squares: *mut f64,
-        fine_squares_len: usize,
-        coarse_squares: *mut f64,
-        coarse_squares_len: usize,
+        fine_energy: *mut f64,
+        fine_energy_len: usize,
+        coarse_energy: *mut f64,
+        coarse_energy_len: usize,
         state: *mut u64,
         state_len: usize,
     ) -> u32;
@@ -37,10 +37,10 @@ unsafe extern "C" {
         fine_len: usize,
         coarse: *const f32,
         coarse_len: usize,
-        fine_squares: *const f64,
-        fine_squares_len: usize,
-        coarse_squares: *const f64,
-        coarse_squares_len: usize,
+        fine_energy: *const f64,
+        fine_energy_len: usize,
+        coarse_energy: *const f64,
+        coarse_energy_len: usize,
         bands: usize,
         times: *const f64,
         times_len: usize,
@@ -61,8 +61,8 @@ unsafe extern "C" {
     fn kistovab_snapshot_words() -> usize;
     fn kistovab_fine_length(frames: usize, bands: usize) -> usize;
     fn kistovab_coarse_length(frames: usize, bands: usize) -> usize;
-    fn kistovab_fine_squares_length(frames: usize, bands: usize) -> usize;
-    fn kistovab_coarse_squares_length(frames: usize, bands: usize) -> usize;
+    fn kistovab_fine_energy_length(frames: usize, bands: usize) -> usize;
+    fn kistovab_coarse_energy_length(frames: usize, bands: usize) -> usize;
     fn kistovab_work32_length(frames: usize, bands: usize) -> usize;
     fn kistovab_work64_length(frames: usize, bands: usize, reference_frames: usize) -> usize;
 }
@@ -89,8 +89,8 @@ pub fn index(frames: usize, bands: usize) -> [usize; 4] {
         [
             kistovab_fine_length(frames, bands),
             kistovab_coarse_length(frames, bands),
-            kistovab_fine_squares_length(frames, bands),
-            kistovab_coarse_squares_length(frames, bands),
+            kistovab_fine_energy_length(frames, bands),
+            kistovab_coarse_energy_length(frames, bands),
         ]
     }
 }
@@ -111,8 +111,8 @@ pub fn work(frames: usize, bands: usize, reference_frames: usize) -> [usize; 2] 
 pub struct Index {
     pub fine: Vec<f32>,
     pub coarse: Vec<f32>,
-    pub fine_squares: Vec<f64>,
-    pub coarse_squares: Vec<f64>,
+    pub fine_energy: Vec<f64>,
+    pub coarse_energy: Vec<f64>,
 }
 
 impl Index {
@@ -120,8 +120,8 @@ impl Index {
         Self {
             fine: vec![OLD as f32; lengths[0]],
             coarse: vec![OLD as f32; lengths[1]],
-            fine_squares: vec![OLD; lengths[2]],
-            coarse_squares: vec![OLD; lengths[3]],
+            fine_energy: vec![OLD; lengths[2]],
+            coarse_energy: vec![OLD; lengths[3]],
         }
     }
 
@@ -129,8 +129,8 @@ impl Index {
         [
             self.fine.len(),
             self.coarse.len(),
-            self.fine_squares.len(),
-            self.coarse_squares.len(),
+            self.fine_energy.len(),
+            self.coarse_energy.len(),
         ]
     }
 
@@ -141,8 +141,8 @@ impl Index {
         };
         narrow(&self.fine, &other.fine)
             && narrow(&self.coarse, &other.coarse)
-            && equal(&self.fine_squares, &other.fine_squares)
-            && equal(&self.coarse_squares, &other.coarse_squares)
+            && equal(&self.fine_energy, &other.fine_energy)
+            && equal(&self.coarse_energy, &other.coarse_energy)
     }
 }
 
@@ -173,10 +173,10 @@ pub fn open(opening: &Opening, index: &mut Index, state: &mut [u64]) -> u32 {
             index.fine.len(),
             index.coarse.as_mut_ptr(),
             index.coarse.len(),
-            index.fine_squares.as_mut_ptr(),
-            index.fine_squares.len(),
-            index.coarse_squares.as_mut_ptr(),
-            index.coarse_squares.len(),
+            index.fine_energy.as_mut_ptr(),
+            index.fine_energy.len(),
+            index.coarse_energy.as_mut_ptr(),
+            index.coarse_energy.len(),
             state.as_mut_ptr(),
             state.len(),
         )
@@ -195,8 +195,8 @@ pub fn submit(
 ) -> u32 {
     let fine = &index.fine[..lengths[0]];
     let coarse = &index.coarse[..lengths[1]];
-    let fine_squares = &index.fine_squares[..lengths[2]];
-    let coarse_squares = &index.coarse_squares[..lengths[3]];
+    let fine_energy = &index.fine_energy[..lengths[2]];
+    let coarse_energy = &index.coarse_energy[..lengths[3]];
     let (work32, work64) = work;
     // SAFETY: every pointer goes with its slice's length.
     unsafe {
@@ -207,10 +207,10 @@ pub fn submit(
             fine.len(),
             coarse.as_ptr(),
             coarse.len(),
-            fine_squares.as_ptr(),
-            fine_squares.len(),
-            coarse_squares.as_ptr(),
-            coarse_squares.len(),
+            fine_energy.as_ptr(),
+            fine_energy.len(),
+            coarse_energy.as_ptr(),
+            coarse_energy.len(),
             window.bands,
             window.times.as_ptr(),
             window.times.len(),

@@ -107,12 +107,12 @@ fn untouched(index: &ours::Index) -> bool {
     let old = ours::OLD;
     index.fine.iter().all(|&x| x == old as f32)
         && index.coarse.iter().all(|&x| x == old as f32)
-        && index.fine_squares.iter().all(|&x| x == old)
-        && index.coarse_squares.iter().all(|&x| x == old)
+        && index.fine_energy.iter().all(|&x| x == old)
+        && index.coarse_energy.iter().all(|&x| x == old)
 }
 
 fn compare_index(number: u64, index: &ours::Index, theirs: &theirs::Matcher, tally: &Tally) {
-    let (fine, coarse, fine_squares, coarse_squares) = theirs.index();
+    let (fine, coarse, fine_energy, coarse_energy) = theirs.index();
     let old = ours::OLD;
     let rows = [
         ("the fine row", front_is(&index.fine, &fine, old as f32)),
@@ -122,11 +122,11 @@ fn compare_index(number: u64, index: &ours::Index, theirs: &theirs::Matcher, tal
         ),
         (
             "the fine energies",
-            front_is(&index.fine_squares, &fine_squares, old),
+            front_is(&index.fine_energy, &fine_energy, old),
         ),
         (
             "the coarse energies",
-            front_is(&index.coarse_squares, &coarse_squares, old),
+            front_is(&index.coarse_energy, &coarse_energy, old),
         ),
     ];
     for (what, equal) in rows {

@@ -135,9 +135,9 @@ fn heard_at(case: &Case, band: usize, frame: usize) -> f32 {
 }
 
 fn index_digest(matcher: &theirs::Matcher) -> u64 {
-    let (fine, coarse, fine_squares, coarse_squares) = matcher.index();
+    let (fine, coarse, fine_energy, coarse_energy) = matcher.index();
     let wide = |row: Vec<f32>| row.into_iter().map(f64::from).collect();
-    let rows: [Vec<f64>; 4] = [wide(fine), wide(coarse), fine_squares, coarse_squares];
+    let rows: [Vec<f64>; 4] = [wide(fine), wide(coarse), fine_energy, coarse_energy];
     let mut word = 0;
     for (mut row, room) in rows.into_iter().zip(ROOM) {
         row.resize(room, 0.0);

@@ -7,7 +7,7 @@ use lib.ListN.{getD}
 use lib.Ieee.{Float, nan, le}
 use mathlib.Core.List.{List}
 use mathlib.Core.Bool.{Bool}
-use Rattle.engine_spec.specs.Readiness.{tally}
+use Rattle.numbers_spec.specs.Rows.{tally}
 use Rattle.engine_readiness.proofs.TallyLaws.{tally-yes, tally-no}
 use Rattle.engine_readiness.proofs.count_active.Statement.{statement}
 use Rattle.engine_readiness.proofs.count_active.Tie as tie

@@ -8,7 +8,7 @@ use Rattle.engine_replay.proofs.replay_in.Statement.{statement}
 use Rattle.engine_replay.proofs.replay_in.Tie as tie
 
 abbrev Inv-loop : tie.InvT-loop
-Inv-loop list state₀ fine₀ coarse₀ fine-squares₀ coarse-squares₀ at₀ session₀ sessions₀ submissions₀ differ₀ state fine coarse fine-squares coarse-squares at session sessions submissions differ =
+Inv-loop list state₀ fine₀ coarse₀ fine-energy₀ coarse-energy₀ at₀ session₀ sessions₀ submissions₀ differ₀ state fine coarse fine-energy coarse-energy at session sessions submissions differ =
     (at ≤ length list)
     × (session ≤ at)
     × (sessions ≤ at)
@@ -17,11 +17,11 @@ Inv-loop list state₀ fine₀ coarse₀ fine-squares₀ coarse-squares₀ at₀
     × (length state ≡ length state₀)
     × (length fine ≡ length fine₀)
     × (length coarse ≡ length coarse₀)
-    × (length fine-squares ≡ length fine-squares₀)
-    × (length coarse-squares ≡ length coarse-squares₀)
+    × (length fine-energy ≡ length fine-energy₀)
+    × (length coarse-energy ≡ length coarse-energy₀)
 
 abbrev μ-loop : tie.MeasureT-loop
-μ-loop list state₀ fine₀ coarse₀ fine-squares₀ coarse-squares₀ at₀ session₀ sessions₀ submissions₀ differ₀ state fine coarse fine-squares coarse-squares at session sessions submissions differ = length list - at
+μ-loop list state₀ fine₀ coarse₀ fine-energy₀ coarse-energy₀ at₀ session₀ sessions₀ submissions₀ differ₀ state fine coarse fine-energy coarse-energy at session sessions submissions differ = length list - at
 
 pub replay-in-spec : {M : Type 1} → statement M
 replay-in-spec =

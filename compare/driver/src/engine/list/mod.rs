@@ -195,8 +195,8 @@ impl Replay {
         let rows: [Vec<f64>; 4] = [
             wide(rows.fine),
             wide(rows.coarse),
-            rows.fine_squares,
-            rows.coarse_squares,
+            rows.fine_energy,
+            rows.coarse_energy,
         ];
         for (buffer, row) in self.index.iter_mut().zip(rows) {
             buffer[..row.len()].copy_from_slice(&row);

@@ -18,7 +18,7 @@ use Rattle.engine.proofs.submitting.answered.Tie as tie
 returns : tie.Need-returns
 returns c =
     let a = c .before .before .before .before .before .before .before .before .before .before .before .before .before .before .before .args in
-    let x = lent (a .fine .now) (a .coarse .now) (a .fine-squares .now) (a .coarse-squares .now) in
+    let x = lent (a .fine .now) (a .coarse .now) (a .fine-energy .now) (a .coarse-energy .now) in
     let w = window (a .bands) (a .times .now) (a .energies .now) (a .values .now) in
     let i : Submission = handed x w (a .clock) (length (a .work32 .now)) (length (a .work64 .now)) in
     c .reread .ensures ∙ answers-again (a .engine) i (sym (c .before .before .before .is-reread .ensures) ∙ c .before .before .if1 .taken)
@@ -35,7 +35,7 @@ returns-2 c =
     let from = decided .before .before .before in
     let asked = from .before .before .before .before in
     let a = asked .before .before .before .before .before .before .before .before .before .before .before .before .args in
-    let x = lent (a .fine .now) (a .coarse .now) (a .fine-squares .now) (a .coarse-squares .now) in
+    let x = lent (a .fine .now) (a .coarse .now) (a .fine-energy .now) (a .coarse-energy .now) in
     let w = window (a .bands) (a .times .now) (a .energies .now) (a .values .now) in
     let i : Submission = handed x w (a .clock) (length (a .work32 .now)) (length (a .work64 .now)) in
     let s = a .engine .settings in

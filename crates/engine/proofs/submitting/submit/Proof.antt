@@ -4,7 +4,7 @@ use mathlib.Core.Path.{refl, sym, ap, _∙_}
 use borrow.Author.Needs.{needs}
 use lib.ListN.{length}
 use Rattle.engine_spec.specs.Refusals.{refuses, Submission}
-use Rattle.engine_spec.specs.declared.types.Submitted.{Submitted}
+use Rattle.engine_spec.specs.declared.types.SubmitResult.{SubmitResult}
 use Rattle.engine_spec.specs.Lent.{lent, window, handed}
 use Rattle.engine.proofs.RoomLaw.{room}
 use Rattle.engine.proofs.AnswerLaws.{submit-refused, submit-answered, answered-unrefused}
@@ -15,7 +15,7 @@ returns : tie.Need-returns
 returns c =
     let asked = c .before .before .before in
     let a = asked .before .before .before .before .before .before .before .before .before .before .args in
-    let x = lent (a .fine .now) (a .coarse .now) (a .fine-squares .now) (a .coarse-squares .now) in
+    let x = lent (a .fine .now) (a .coarse .now) (a .fine-energy .now) (a .coarse-energy .now) in
     let w = window (a .bands) (a .times .now) (a .energies .now) (a .values .now) in
     let i : Submission = handed x w (a .clock) (length (a .work32 .now)) (length (a .work64 .now)) in
     let same = c .refused .ensures ∙ submit-refused (a .engine) i (asked .submission-refusal .ensures) (sym (c .before .before .is-refusal .ensures) ∙ c .before .if1 .taken) in
@@ -25,7 +25,7 @@ answered-requires : tie.Need-answered-requires
 answered-requires c κs =
     let asked = c .before .before .before .before in
     let a = asked .before .before .before .before .before .before .before .before .before .before .args in
-    let x = lent (a .fine .now) (a .coarse .now) (a .fine-squares .now) (a .coarse-squares .now) in
+    let x = lent (a .fine .now) (a .coarse .now) (a .fine-energy .now) (a .coarse-energy .now) in
     let w = window (a .bands) (a .times .now) (a .energies .now) (a .values .now) in
     let i : Submission = handed x w (a .clock) (length (a .work32 .now)) (length (a .work64 .now)) in
     room (a .engine) i (ap refuses (sym (asked .submission-refusal .ensures)) ∙ sym (c .before .before .before .is-refusal .ensures) ∙ c .before .before .if1 .left)
@@ -35,11 +35,11 @@ returns-2 c =
     let done = c .before .before .before .before in
     let asked = done .before .before .before .before .before in
     let a = asked .before .before .before .before .before .before .before .before .before .before .args in
-    let x = lent (a .fine .now) (a .coarse .now) (a .fine-squares .now) (a .coarse-squares .now) in
+    let x = lent (a .fine .now) (a .coarse .now) (a .fine-energy .now) (a .coarse-energy .now) in
     let w = window (a .bands) (a .times .now) (a .energies .now) (a .values .now) in
     let i : Submission = handed x w (a .clock) (length (a .work32 .now)) (length (a .work64 .now)) in
     let same = done .answered .ensures ∙ submit-answered (a .engine) i (asked .submission-refusal .ensures) (sym (done .before .before .before .before .is-refusal .ensures) ∙ done .before .before .before .if1 .left) in
-    let answered = ap (λ (s : Submitted). refuses (s .answer)) (done .answered .ensures) ∙ answered-unrefused (a .engine) i in
+    let answered = ap (λ (s : SubmitResult). refuses (s .answer)) (done .answered .ensures) ∙ answered-unrefused (a .engine) i in
     let kept = done .answered .kept .1 .1 .1 .1 .1 .1 .1 .1 .1 .1 in
     (same, ((λ h. absurd (true≢false (sym h ∙ answered))), ((kept .0, kept .1 .0), (λ k u. asked .before .before .before .shared-slice-known7 .given k))))
 

@@ -14,7 +14,7 @@ returns c =
     let a = c .before .before .before .before .before .before .before .before .before .before .before .before .before .before .args in
     let room = c .before .before .before .before .before .before .before .before .before .before .before .before .before .before .pre in
     let s = a .settings in
-    let x = lent (a .fine .now) (a .coarse .now) (a .fine-squares .now) (a .coarse-squares .now) in
+    let x = lent (a .fine .now) (a .coarse .now) (a .fine-energy .now) (a .coarse-energy .now) in
     let w = window (a .bands) (a .times .now) (a .energies .now) (a .values .now) in
     (c .unready .ensures .0 ∙ decides-unready s (matcherIn s x) w (reachedIn (a .reached)) (a .lock) (c .before .before .before .readiness .ensures) (sym (c .before .before .is-none .ensures) ∙ not-true _ (c .before .if1 .taken)), c .unready .ensures .1)
 
@@ -23,7 +23,7 @@ searched-requires c κs =
     let a = c .before .before .before .before .before .before .before .before .before .before .before .before .before .before .before .args in
     let room = c .before .before .before .before .before .before .before .before .before .before .before .before .before .before .before .pre in
     let s = a .settings in
-    let x = lent (a .fine .now) (a .coarse .now) (a .fine-squares .now) (a .coarse-squares .now) in
+    let x = lent (a .fine .now) (a .coarse .now) (a .fine-energy .now) (a .coarse-energy .now) in
     let w = window (a .bands) (a .times .now) (a .energies .now) (a .values .now) in
     (room, ready-frames s (a .reached .confirmed) w (c .before .before .before .before .readiness .ensures) (sym (c .before .before .before .is-none .ensures) ∙ not-false _ (c .before .before .if1 .left)))
 
@@ -32,7 +32,7 @@ returns-2 c =
     let a = c .before .before .before .before .before .before .before .before .before .before .before .before .before .before .before .before .before .before .before .before .before .args in
     let room = c .before .before .before .before .before .before .before .before .before .before .before .before .before .before .before .before .before .before .before .before .before .pre in
     let s = a .settings in
-    let x = lent (a .fine .now) (a .coarse .now) (a .fine-squares .now) (a .coarse-squares .now) in
+    let x = lent (a .fine .now) (a .coarse .now) (a .fine-energy .now) (a .coarse-energy .now) in
     let w = window (a .bands) (a .times .now) (a .energies .now) (a .values .now) in (
       c .ready .ensures .0 ∙ decides-ready s (matcherIn s x) w (reachedIn (a .reached)) (a .lock) (c .before .before .before .before .before .before .before .before .before .before .readiness .ensures) (sym (c .before .before .before .before .before .before .before .before .before .is-none .ensures) ∙ not-false _ (c .before .before .before .before .before .before .before .before .if1 .left)) (c .before .before .before .before .before .searched .ensures .0),
       rw (c .ready .ensures .1) (c .before .before .before .before .before .searched .ensures .1),

@@ -1,7 +1,7 @@
 -- `engine_lock::rules::least` meets its contract. Assumes nothing.
 use mathlib.Core.Path.{refl}
 use borrow.Author.Needs.{needs}
-use Rattle.engine_spec.specs.Locking.{least}
+use Rattle.numbers_spec.specs.Arithmetic.{least}
 use Rattle.engine_lock.proofs.LockLaws.{no-nan, nan-passed}
 use Rattle.engine_lock.proofs.rules.least.Statement.{statement}
 use Rattle.engine_lock.proofs.rules.least.Tie as tie

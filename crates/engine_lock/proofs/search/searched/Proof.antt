@@ -13,7 +13,7 @@ without-track-requires c κs =
     let start = c .before .before .before .before .before .before .before .before .before .before .before .before .before .before .before in
     let a = start .args in
     let s = a .settings in
-    let m = matcherIn s (lent (a .fine .now) (a .coarse .now) (a .fine-squares .now) (a .coarse-squares .now)) in
+    let m = matcherIn s (lent (a .fine .now) (a .coarse .now) (a .fine-energy .now) (a .coarse-energy .now)) in
     let w = window (a .bands) (a .times .now) (a .energies .now) (a .values .now) in
     let e = sym (evidence-ending (s .«hop_ms») w) ∙ sym (c .before .before .before .before .evidence .ensures) in
     (start .pre .0, (start .pre .1, untracked m (s .«hop_ms») w (a .lock .accepted) e (c .before .before .before .is-coasting .ensures .1) (not-true _ (c .before .before .if1 .taken))))

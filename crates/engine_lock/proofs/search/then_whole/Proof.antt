@@ -27,7 +27,7 @@ whole-found-requires c κs =
           rw e (room .few),
           (
             rw e (room .short),
-            (rw e (room .fine), (rw e (room .fine-squares), (rw e (room .coarse), (rw e (room .coarse-squares), (room .work32, (rw e (room .work64), filled-of (sym e) filled)))))),
+            (rw e (room .fine), (rw e (room .fine-energy), (rw e (room .coarse), (rw e (room .coarse-energy), (room .work32, (rw e (room .work64), filled-of (sym e) filled)))))),
           ),
         ),
       ),
@@ -37,7 +37,7 @@ returns-2 : tie.Need-returns-2
 returns-2 c =
     let a = c .before .before .before .before .before .before .before .before .before .before .before .before .before .before .before .before .before .before .before .before .args in
     let s = a .settings in
-    let m = matcherIn s (lent (a .fine .now) (a .coarse .now) (a .fine-squares .now) (a .coarse-squares .now)) in
+    let m = matcherIn s (lent (a .fine .now) (a .coarse .now) (a .fine-energy .now) (a .coarse-energy .now)) in
     let w = window (a .bands) (a .times .now) (a .energies .now) (a .values .now) in
     let found = c .before .before .before .before .before .whole-found .ensures in
     let done = c .whole-searched .ensures in (

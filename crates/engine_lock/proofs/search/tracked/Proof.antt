@@ -20,7 +20,7 @@ returns c =
     let start = c .before .before .before .before .before .before .before .before .before .before .before .before .before .before .before .before .before .before in
     let a = start .args in
     let s = a .settings in
-    let m = matcherIn s (lent (a .fine .now) (a .coarse .now) (a .fine-squares .now) (a .coarse-squares .now)) in
+    let m = matcherIn s (lent (a .fine .now) (a .coarse .now) (a .fine-energy .now) (a .coarse-energy .now)) in
     let w = window (a .bands) (a .times .now) (a .energies .now) (a .values .now) in
     let e = sym (evidence-ending (s .«hop_ms») w) ∙ sym (c .before .before .before .before .before .before .before .evidence .ensures) in
     let none = c .before .nothing-found2 .ensures in (
@@ -39,7 +39,7 @@ local-found-requires c κs =
       rw e (room .hop),
       (
         rw e (some-bands _ _ (room .both) (start .pre .1 .0)),
-        (rw e (room .few), (rw e (room .short), (rw e (room .fine), (rw e (room .fine-squares), (room .work32, (rw e (room .work64), filled-of (sym e) (start .pre .1 .1))))))),
+        (rw e (room .few), (rw e (room .short), (rw e (room .fine), (rw e (room .fine-energy), (room .work32, (rw e (room .work64), filled-of (sym e) (start .pre .1 .1))))))),
       ),
     )
 
@@ -55,7 +55,7 @@ returns-3 : tie.Need-returns-3
 returns-3 c =
     let a = c .before .before .before .before .before .before .before .before .before .before .before .before .before .before .before .before .before .before .before .before .before .before .args in
     let s = a .settings in
-    let m = matcherIn s (lent (a .fine .now) (a .coarse .now) (a .fine-squares .now) (a .coarse-squares .now)) in
+    let m = matcherIn s (lent (a .fine .now) (a .coarse .now) (a .fine-energy .now) (a .coarse-energy .now)) in
     let w = window (a .bands) (a .times .now) (a .energies .now) (a .values .now) in
     let e = sym (evidence-ending (s .«hop_ms») w) ∙ sym (c .before .before .before .before .before .before .before .before .before .before .before .evidence .ensures) in
     let x = c .before .before .before .before .before .reference-of .ensures in

@@ -23,7 +23,7 @@ returns-2 c = (few-shown _ _ _ (le-ltb _ _ (c .before .if1 .left)) (lt-ltb _ _ (
 returns-3 : tie.Need-returns-3
 returns-3 c =
     let a = c .before .before .before .before .before .before .before .before .before .before .before .before .before .before .before .before .before .before .before .before .before .before .before .before .before .args in
-    let x = lent (a .fine .now) (a .coarse .now) (a .fine-squares .now) (a .coarse-squares .now) in
+    let x = lent (a .fine .now) (a .coarse .now) (a .fine-energy .now) (a .coarse-energy .now) in
     let i : Submission = handed x (window (a .bands) (a .times .now) (a .energies .now) (a .values .now)) (record { 0 = a .clock-ms }) (length (a .work32 .now)) (length (a .work64 .now)) in
     let n = length (a .state .now) in
     let k = length (a .snapshot .now) in
@@ -41,7 +41,7 @@ returns-3 c =
 returns-4 : tie.Need-returns-4
 returns-4 c =
     let a = c .before .before .before .before .before .before .before .before .before .before .before .before .before .before .before .before .before .before .before .before .before .before .before .before .before .before .before .before .before .before .before .before .before .before .before .before .before .args in
-    let x = lent (a .fine .now) (a .coarse .now) (a .fine-squares .now) (a .coarse-squares .now) in
+    let x = lent (a .fine .now) (a .coarse .now) (a .fine-energy .now) (a .coarse-energy .now) in
     let i : Submission = handed x (window (a .bands) (a .times .now) (a .energies .now) (a .values .now)) (record { 0 = a .clock-ms }) (length (a .work32 .now)) (length (a .work64 .now)) in
     let n = length (a .state .now) in
     let k = length (a .snapshot .now) in
@@ -60,7 +60,7 @@ returns-4 c =
 returns-5 : tie.Need-returns-5
 returns-5 c =
     let a = c .before .before .before .before .before .before .before .before .before .before .before .before .before .before .before .before .before .before .before .before .before .before .before .before .before .before .before .before .before .before .before .before .args in
-    let x = lent (a .fine .now) (a .coarse .now) (a .fine-squares .now) (a .coarse-squares .now) in
+    let x = lent (a .fine .now) (a .coarse .now) (a .fine-energy .now) (a .coarse-energy .now) in
     let i : Submission = handed x (window (a .bands) (a .times .now) (a .energies .now) (a .values .now)) (record { 0 = a .clock-ms }) (length (a .work32 .now)) (length (a .work64 .now)) in
     let n = length (a .state .now) in
     let k = length (a .snapshot .now) in

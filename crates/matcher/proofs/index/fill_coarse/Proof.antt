@@ -25,7 +25,7 @@ returns c =
     let averages = allAverages (a .bands) (a .n) (a .fine .now) in (
       at .reduce-bands .ensures,
       c .before .before .fill-energies .ensures
-          ∙ ap (λ (l : List Float). allEnergies (a .bands) size l ++ drop (a .bands * (size + 1)) (a .squares .now))
+          ∙ ap (λ (l : List Float). allEnergies (a .bands) size l ++ drop (a .bands * (size + 1)) (a .energy .now))
           (front-is averages (a .coarse .now) (a .bands * size) (at .reduce-bands .ensures) (at .reduce-bands .kept .0) (omega arith)),
     )
 

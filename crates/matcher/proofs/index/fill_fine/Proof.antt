@@ -17,7 +17,7 @@ use Rattle.matcher.proofs.index.fill_fine.Tie as tie
 add-room : tie.Need-add-room
 add-room c =
     let a = c .before .before .before .args in
-    omega (arith, one-row {bands = a .bands} {l = length (a .squares .now)} (a .n + 1) (omega arith) (omega arith))
+    omega (arith, one-row {bands = a .bands} {l = length (a .energy .now)} (a .n + 1) (omega arith) (omega arith))
 
 slice-relend-prefix-centre-bands : tie.Need-slice-relend-prefix-centre-bands
 slice-relend-prefix-centre-bands c =
@@ -27,13 +27,13 @@ slice-relend-prefix-centre-bands c =
 slice-aggregate-centre-bands : tie.Need-slice-aggregate-centre-bands
 slice-aggregate-centre-bands c =
     let a = c .before .before .before .before .before .args in
-    let h : a .n + 1 ≤ length (a .squares .now) = one-row {bands = a .bands} (a .n + 1) (omega arith) (omega arith) in
+    let h : a .n + 1 ≤ length (a .energy .now) = one-row {bands = a .bands} (a .n + 1) (omega arith) (omega arith) in
     simp length-take (omega arith)
 
 centre-bands-requires : tie.Need-centre-bands-requires
 centre-bands-requires c κs =
     let a = c .before .before .before .before .before .args in
-    let h : a .n + 1 ≤ length (a .squares .now) = one-row {bands = a .bands} (a .n + 1) (omega arith) (omega arith) in
+    let h : a .n + 1 ≤ length (a .energy .now) = one-row {bands = a .bands} (a .n + 1) (omega arith) (omega arith) in
     (omega arith, (omega arith, (simp length-take (omega arith), (omega arith, (omega arith, omega arith)))))
 
 slice-aggregate-fill-energies : tie.Need-slice-aggregate-fill-energies
@@ -49,13 +49,13 @@ returns c =
     let n = a .n in
     let bands = a .bands in
     let v : List Float = a .values .now in
-    let h : n + 1 ≤ length (a .squares .now) = one-row {bands = bands} (n + 1) (omega arith) (omega arith) in
+    let h : n + 1 ≤ length (a .energy .now) = one-row {bands = bands} (n + 1) (omega arith) (omega arith) in
     let uncut : (b : ℕ) → take n (drop 0 (centred (a .radius) (row n v b))) ≡ centred (a .radius) (row n v b) = λ b. take-all n _ (centred-within (a .radius) n b v) in
     let front = at .centre-bands .ensures .0 ∙ (λ i. rows (λ (b : ℕ). uncut b i) bands) in
     let same : bands * n + (n - n) ≡ bands * n = omega arith in
     let sums : List Float = at .centre-bands .last .1 .0 in
     let room : length sums ≡ n + 1 = at .centre-bands .kept .1 .0 ∙ length-take-le (n + 1) _ h in
-    let rest = drop-past sums (a .squares .now) (n + 1) (bands * (n + 1)) room (one-row {bands = bands} (n + 1) (omega arith) (omega arith)) in (
+    let rest = drop-past sums (a .energy .now) (n + 1) (bands * (n + 1)) room (one-row {bands = bands} (n + 1) (omega arith) (omega arith)) in (
       front-and-rest _ (a .fine .now) (bands * n) front (rw same at (at .centre-bands .ensures .1)),
       c .before .before .fill-energies .ensures ∙ (λ i. allEnergies bands n (front i) ++ rest i),
     )

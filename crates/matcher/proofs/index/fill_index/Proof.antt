@@ -46,7 +46,7 @@ returns-2 c =
     let r = at .before .radius .ensures in
     let f : List Float = fineValues (radius (a .hop)) bands n v in
     let fine = at .fill-fine .ensures .0 ∙ ap (λ (k : ℕ). fineValues k bands n v ++ drop (bands * n) (a .fine .now)) r in
-    let squares = at .fill-fine .ensures .1 ∙ ap (λ (k : ℕ). allEnergies bands n (fineValues k bands n v) ++ drop (bands * (n + 1)) (a .fine-squares .now)) r in
+    let energy = at .fill-fine .ensures .1 ∙ ap (λ (k : ℕ). allEnergies bands n (fineValues k bands n v) ++ drop (bands * (n + 1)) (a .fine-energy .now)) r in
     let whole = front-is f (a .fine .now) (bands * n) fine (at .fill-fine .kept .0) (omega arith) in (
       sym (sym (begun .before .accepts-reference .ensures) ∙ not-false _ (begun .if1 .left)),
       (
@@ -56,9 +56,9 @@ returns-2 c =
               (done .fill-coarse .ensures .0 ∙ ap (λ (l : List Float). allAverages bands n l ++ drop (bands * (n / 4)) (a .coarse .now)) whole)
               (done .fill-coarse .kept .0) (omega arith),
           (
-            front-filled (allEnergies bands n f) (a .fine-squares .now) (bands * (n + 1)) squares (at .fill-fine .kept .1 .0) (omega arith),
-            front-filled (allEnergies bands (n / 4) (allAverages bands n f)) (a .coarse-squares .now) (bands * (n / 4 + 1))
-                (done .fill-coarse .ensures .1 ∙ ap (λ (l : List Float). allEnergies bands (n / 4) (allAverages bands n l) ++ drop (bands * (n / 4 + 1)) (a .coarse-squares .now)) whole)
+            front-filled (allEnergies bands n f) (a .fine-energy .now) (bands * (n + 1)) energy (at .fill-fine .kept .1 .0) (omega arith),
+            front-filled (allEnergies bands (n / 4) (allAverages bands n f)) (a .coarse-energy .now) (bands * (n / 4 + 1))
+                (done .fill-coarse .ensures .1 ∙ ap (λ (l : List Float). allEnergies bands (n / 4) (allAverages bands n l) ++ drop (bands * (n / 4 + 1)) (a .coarse-energy .now)) whole)
                 (done .fill-coarse .kept .1 .0) (omega arith),
           ),
         ),

@@ -6,14 +6,14 @@ use native.Mathlib.Omega.{arith}
 use mathlib.Core.List.{List}
 use lib.Ieee.{Float}
 use lib.ListN.{take, drop}
-use Rattle.matcher_spec.specs.Energy.{bandsOf, totals}
+use Rattle.matcher_spec.specs.Energy.{bandsOf, wholeEnergies}
 use Rattle.matcher_spec.specs.Search.{candidateOf, candidateIn}
 use Rattle.matcher.proofs.SearchLaws.{shorter-front}
 use Rattle.matcher.proofs.search.best_candidate.Statement.{statement}
 use Rattle.matcher.proofs.search.best_candidate.Tie as tie
 
 returns : tie.Need-returns
-unfolding candidateIn totals
+unfolding candidateIn wholeEnergies
 returns c =
     let done = c .before .before .before .before .before .before in
     let start = done .before .before .before .before .before .before .before in
@@ -28,7 +28,7 @@ returns c =
     let energies = ap (λ (k : ℕ). take k after) all ∙ shorter-front front (a .at) after w before (done .score-places .ensures .1) in
     let scores = ap (λ (k : ℕ). take k (drop (a .at) after)) same ∙ done .score-places .ensures .0 in (
       c .candidate-of .ensures
-          ∙ (λ i. candidateOf (a .reference) (bandsOf (a .reference .frames) (a .fine .now) (a .squares .now)) (bandsOf (a .n) (a .query .now) (energies i)) (a .start) (a .low) (scores i)),
+          ∙ (λ i. candidateOf (a .reference) (bandsOf (a .reference .frames) (a .fine .now) (a .energy .now)) (bandsOf (a .n) (a .query .now) (energies i)) (a .start) (a .low) (scores i)),
       done .score-places .ensures .1,
     )
 

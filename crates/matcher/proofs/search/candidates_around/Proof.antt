@@ -15,12 +15,12 @@ use Rattle.matcher.proofs.search.candidates_around.Statement.{statement
 use Rattle.matcher.proofs.search.candidates_around.Tie as tie
 
 abbrev Inv-loop : tie.InvT-loop
-Inv-loop fine squares reference query start n work₀ at peaks limit found₀ k₀ work found k =
+Inv-loop fine energy reference query start n work₀ at peaks limit found₀ k₀ work found k =
     (k ≤ limit) × (length work ≡ length work₀) × (take at work ≡ take at work₀)
-    × Found reference (bandsOf (reference .frames) fine squares) (bandsOf n query (take (reference .bands * (n + 1)) work₀)) start (take limit peaks) k found
+    × Found reference (bandsOf (reference .frames) fine energy) (bandsOf n query (take (reference .bands * (n + 1)) work₀)) start (take limit peaks) k found
 
 abbrev μ-loop : tie.MeasureT-loop
-μ-loop fine squares reference query start n work₀ at peaks limit found₀ k₀ work found k = limit - k
+μ-loop fine energy reference query start n work₀ at peaks limit found₀ k₀ work found k = limit - k
 
 loop-holds : tie.Need-loop-holds Inv-loop μ-loop
 loop-holds c = (omega arith, refl, refl, found-none _ _ _ _ _ (c .nothing-found .ensures))
@@ -53,7 +53,7 @@ loop-again c =
     let long : length (a .picked .at) ≡ 8 = eight (a .picked) _ (start .good .1 .1 .1 .1 .1 .1 .1 .1 .0) in
     let k = at .loop .k in
     let peak = getD (a .picked .at) k 0 in
-    let fine = bandsOf (a .reference .frames) (a .fine .now) (a .squares .now) in
+    let fine = bandsOf (a .reference .frames) (a .fine .now) (a .energy .now) in
     let query : List Float → Bands = bandsOf (a .n) (a .query .now) in
     let step = next (a .picked .at) (a .picked .count) k 0 (omega arith) (omega arith) in
     let more = done .with-candidate .ensures .1 .0 ∙ (λ i. sortInto (listed (at .loop .found)) (candidatesAt (a .reference) fine (query (energies i)) (a .start) (peak ∷ []))) in (

@@ -7,7 +7,7 @@ use native.Mathlib.Omega.{arith}
 use mathlib.Core.List.{List, []}
 use lib.Ieee.{Float}
 use lib.ListN.{length, take, drop, length-take}
-use Rattle.matcher_spec.specs.Energy.{bandsOf, totals}
+use Rattle.matcher_spec.specs.Energy.{bandsOf, wholeEnergies}
 use Rattle.matcher_spec.specs.Peaks.{peaks}
 use Rattle.matcher_spec.specs.Scores.{correlations}
 use Rattle.matcher_spec.specs.Search.{coarseScores}
@@ -32,7 +32,7 @@ part-pick-peaks-end c =
     omega arith
 
 returns : tie.Need-returns
-unfolding coarseScores totals
+unfolding coarseScores wholeEnergies
 returns c =
     let scored = c .before .before .before .before .before .before in
     let small = scored .before .before .before .before .before .before .before .before in
@@ -49,11 +49,11 @@ returns c =
     let all : at + places - at ≡ places = omega arith in
     let few : length (take (at + places - at) (drop at w)) ≤ 65536 = simp length-take (omega arith) in
     let values = ap (λ (i : ℕ). take i (drop (a .from) (small .reduce-query .last .0))) same ∙ small .reduce-query .ensures .0 in
-    let coarse = bandsOf (a .reference .frames / 4) (a .coarse .now) (a .squares .now) in
+    let coarse = bandsOf (a .reference .frames / 4) (a .coarse .now) (a .energy .now) in
     let scores =
     ap (λ (i : ℕ). take i (drop at w)) all
     ∙ scored .score-places .ensures .0
-    ∙ (λ i. correlations bands coarse size (values i) (totals bands (bandsOf size [] (small .reduce-query .ensures .1 .0 i))) 0 places) in (
+    ∙ (λ i. correlations bands coarse size (values i) (wholeEnergies bands (bandsOf size [] (small .reduce-query .ensures .1 .0 i))) 0 places) in (
       c .pick-peaks .ensures .0,
       (
         c .pick-peaks .ensures .1 .0 ∙ (λ i. peaks (scores i) (c .before .peak-separation .ensures i)),

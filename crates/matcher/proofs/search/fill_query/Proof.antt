@@ -4,7 +4,7 @@ use borrow.Author.Tests.{not-true, not-false}
 use mathlib.Core.Bool.{false≢true}
 use mathlib.Core.Path.{sym, _∙_}
 use native.Mathlib.Omega.{arith}
-use Rattle.matcher_spec.specs.Search.{windowOf}
+use Rattle.matcher_spec.specs.Features.{features}
 use Rattle.matcher_spec.proofs.RadiusLaw.{radius-small}
 use Rattle.matcher.proofs.SearchLaws.{searchable-room, query-filled}
 use Rattle.matcher.proofs.search.fill_query.Statement.{statement}
@@ -19,7 +19,7 @@ centre-query-requires c κs =
     let start = c .before .before .before .before .before .before .before .before .before in
     let a = start .args in
     let p = start .pre in
-    let room = searchable-room (a .reference) (windowOf (a .bands) (a .times .now) (a .values .now)) (sym (at .before .is-searchable .ensures) ∙ not-false _ (at .if1 .left)) in
+    let room = searchable-room (a .reference) (features (a .bands) (a .times .now) (a .values .now)) (sym (at .before .is-searchable .ensures) ∙ not-false _ (at .if1 .left)) in
     let small = radius-small (a .reference .«hop_ms») (p .0) in
     let r = c .radius .ensures in
     (omega arith, (omega arith, (omega arith, (omega arith, (omega arith, omega arith)))))
@@ -29,7 +29,7 @@ returns-2 c =
     let done = c .before .before .before .before in
     let at = c .before .before .before .before .before .before .before .before in
     let a = c .before .before .before .before .before .before .before .before .before .before .before .before .before .before .args in
-    let w = windowOf (a .bands) (a .times .now) (a .values .now) in
+    let w = features (a .bands) (a .times .now) (a .values .now) in
     let test = sym (at .before .is-searchable .ensures) ∙ not-false _ (at .if1 .left) in
     let same = searchable-room (a .reference) w test .0 in
     let filled = done .centre-query .ensures in

@@ -31,7 +31,7 @@ returns c =
     let bands : ℕ = a .reference .bands in
     let frames : ℕ = a .reference .frames in (
       best .best-candidate .ensures .0
-          ∙ (λ i. candidateIn (a .reference) (bandsOf frames (take (bands * frames) (a .fine .now)) (take (bands * add-one frames i) (a .squares .now)))
+          ∙ (λ i. candidateIn (a .reference) (bandsOf frames (take (bands * frames) (a .fine .now)) (take (bands * add-one frames i) (a .energy .now)))
           (bandsOf (a .n) (take (bands * a .n) (a .work32 .now)) (take (bands * add-one (a .n) i) (a .work64 .now))) (a .start) (a .low) (a .high)),
       query-stays bands (a .n) (a .work32 .now) (a .work32 .now) _ (a .work64 .now) refl (best .best-candidate .ensures .1),
     )

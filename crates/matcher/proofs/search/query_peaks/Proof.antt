@@ -42,7 +42,7 @@ returns c =
       found .0,
       (
         found .1 .0
-            ∙ (λ i. peaks (coarseScores bands (bandsOf coarse (take (bands * coarse) (a .coarse .now)) (take (bands * add-one coarse i) (a .squares .now))) query) (separation (a .reference .«hop_ms»))),
+            ∙ (λ i. peaks (coarseScores bands (bandsOf coarse (take (bands * coarse) (a .coarse .now)) (take (bands * add-one coarse i) (a .energy .now))) query) (separation (a .reference .«hop_ms»))),
         (found .1 .1 .0, query-stays bands (a .n) _ (a .work32 .now) _ (a .work64 .now) (found .1 .1 .1 .0) (found .1 .1 .1 .1)),
       ),
     )

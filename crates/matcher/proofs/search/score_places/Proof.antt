@@ -7,7 +7,7 @@ use native.Mathlib.Omega.{arith}
 use mathlib.Core.List.{List, []}
 use lib.Ieee.{Float}
 use lib.ListN.{length, take, drop, length-take, length-drop}
-use Rattle.matcher_spec.specs.Energy.{bandsOf, totals}
+use Rattle.matcher_spec.specs.Energy.{bandsOf, wholeEnergies}
 use Rattle.matcher_spec.specs.Scores.{correlations}
 use Rattle.matcher.proofs.SearchLaws.{put-read}
 use Rattle.matcher.proofs.search.score_places.Statement.{statement}
@@ -28,15 +28,15 @@ returns c =
     let p = start .pre in
     let w : List Float = a .work .now in
     let scores : List Float = done .correlations .last .0 in
-    let reference = bandsOf (a .frames) (a .reference .now) (a .squares .now) in
+    let reference = bandsOf (a .frames) (a .reference .now) (a .energy .now) in
     let lent : length (take (a .at + a .places - a .at) (drop (a .at) w)) ≡ a .places = simp (length-take, length-drop) (omega arith) in
     let size : length scores ≡ a .places = done .correlations .kept .0 ∙ lent in
     let same : a .from + a .bands * (a .n + 1) - a .from ≡ a .bands * (a .n + 1) = omega arith in
-    let wholes = done .before .before .before .whole-energies .ensures ∙ ap (λ (k : ℕ). totals (a .bands) (bandsOf (a .n) [] (take k (drop (a .from) w)))) same in (
+    let whole = done .before .before .before .whole-energies .ensures ∙ ap (λ (k : ℕ). wholeEnergies (a .bands) (bandsOf (a .n) [] (take k (drop (a .from) w)))) same in (
       ap (λ (k : ℕ). take k (drop (a .at) (putMid (a .at) (a .at + a .places - a .at) w scores))) (sym size)
           ∙ put-read (a .at) (a .at + a .places - a .at) w scores (omega arith)
           ∙ done .correlations .ensures
-          ∙ (λ i. correlations (a .bands) reference (a .n) (a .query .now) (wholes i) (a .low) (lent i)),
+          ∙ (λ i. correlations (a .bands) reference (a .n) (a .query .now) (whole i) (a .low) (lent i)),
       take-put (a .at) (a .at + a .places - a .at) w scores (omega arith),
     )
 

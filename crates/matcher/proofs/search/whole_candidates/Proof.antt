@@ -63,16 +63,16 @@ returns c =
     let x = a .reference in
     let bands : ℕ = x .bands in
     let frames : ℕ = x .frames in
-    let fine = lentBands bands frames (a .fine .now) (a .fine-squares .now) in
+    let fine = lentBands bands frames (a .fine .now) (a .fine-energy .now) in
     let known = picked .query-peaks .ensures .1 in
     let v : List Float = picked .query-peaks .last .1 .1 .1 .1 .0 in
     let e : List Float = picked .query-peaks .last .1 .1 .1 .1 .1 .0 in
-    let coarse = lentBands bands (frames / 4) (a .coarse .now) (a .coarse-squares .now) in
+    let coarse = lentBands bands (frames / 4) (a .coarse .now) (a .coarse-energy .now) in
     let query = lentBands bands (a .n) (a .work32 .now) (a .work64 .now) in (
       c .keep-independent .ensures
           ∙ ap (λ (l : List Candidate). resultOf (independent l))
           (found .candidates-around .ensures .1
-          ∙ (λ i. sorted (candidatesAt x (bandsOf frames (take (bands * frames) (a .fine .now)) (take (bands * add-one frames i) (a .fine-squares .now))) (bandsOf (a .n) (take (bands * a .n) v) (take (bands * add-one (a .n) i) e)) (a .start) (known .0 i)))
+          ∙ (λ i. sorted (candidatesAt x (bandsOf frames (take (bands * frames) (a .fine .now)) (take (bands * add-one frames i) (a .fine-energy .now))) (bandsOf (a .n) (take (bands * a .n) v) (take (bands * add-one (a .n) i) e)) (a .start) (known .0 i)))
           ∙ ap (λ (q : Bands). sorted (candidatesAt x fine q (a .start) (peaks (coarseScores bands coarse query) (separation (x .«hop_ms»))))) (known .1 .1)),
       independent-few (found .candidates-around .result) (c .keep-independent .ensures) (found .candidates-around .ensures .0),
     )

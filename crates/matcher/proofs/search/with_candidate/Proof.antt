@@ -16,7 +16,7 @@ returns c =
     let best = c .before .before .before in
     let at = best .before .before in
     let a = at .before .before .before .before .before .before .before .before .args in
-    let fine = bandsOf (a .reference .frames) (a .fine .now) (a .squares .now) in
+    let fine = bandsOf (a .reference .frames) (a .fine .now) (a .energy .now) in
     let query = bandsOf (a .n) (a .query .now) (take (a .reference .bands * (a .n + 1)) (a .work .now)) in (
       omega (arith, c .insert-by-score .ensures .0),
       (
@@ -30,7 +30,7 @@ returns c =
 returns-2 : tie.Need-returns-2
 returns-2 c =
     let a = c .before .before .before .before .before .before .before .before .args in
-    let fine = bandsOf (a .reference .frames) (a .fine .now) (a .squares .now) in
+    let fine = bandsOf (a .reference .frames) (a .fine .now) (a .energy .now) in
     let query = bandsOf (a .n) (a .query .now) (take (a .reference .bands * (a .n + 1)) (a .work .now)) in
     (omega arith, (none-found (a .reference) fine query (a .start) (listed (a .found)) (a .peak) (c .before .before .before .less .ensures) (c .before .least .ensures) (c .if1 .left), refl))
 

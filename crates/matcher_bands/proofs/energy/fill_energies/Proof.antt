@@ -10,21 +10,21 @@ use Rattle.matcher_bands.proofs.energy.fill_energies.Statement.{stateme
 use Rattle.matcher_bands.proofs.energy.fill_energies.Tie as tie
 
 abbrev Inv-loop : tie.InvT-loop
-Inv-loop squares₀ values bands n b₀ squares b = (b ≤ bands) × Banded energies n (n + 1) values squares₀ b squares
+Inv-loop energy₀ values bands n b₀ energy b = (b ≤ bands) × Banded energies n (n + 1) values energy₀ b energy
 
 abbrev μ-loop : tie.MeasureT-loop
-μ-loop squares₀ values bands n b₀ squares b = bands - b
+μ-loop energy₀ values bands n b₀ energy b = bands - b
 
 loop-holds : tie.Need-loop-holds Inv-loop μ-loop
 loop-holds c =
     let a = c .before .before .args in
-    (omega arith, banded-none energies (a .n) (a .n + 1) (a .values .now) (a .squares .now))
+    (omega arith, banded-none energies (a .n) (a .n + 1) (a .values .now) (a .energy .now))
 
 -- in a turn the band and its row end within their slices
 within : (c : tie.In-loop Inv-loop μ-loop) →
     let a = c .before .before .before .before .args in
     let b = c .before .loop .b in
-    (b * a .n + a .n ≤ length (a .values .now)) × (b * (a .n + 1) + (a .n + 1) ≤ length (a .squares .now))
+    (b * a .n + a .n ≤ length (a .values .now)) × (b * (a .n + 1) + (a .n + 1) ≤ length (a .energy .now))
 within c =
     let n = c .before .before .before .before .args .n in
     omega (arith, row-within _ _ n (c .loop-test .taken), row-within _ _ (n + 1) (c .loop-test .taken))
@@ -40,7 +40,7 @@ loop-again c =
     let v = a .values .now in
     let b = at .loop .b in
     let w = within turn in
-    (omega arith, banded-more energies (a .n) (a .n + 1) v (a .squares .now) b (length-energies (b * a .n) (a .n) v (w .0)) (w .1) (at .loop .inv .1) (c .before .before .fill-energy .ensures))
+    (omega arith, banded-more energies (a .n) (a .n + 1) v (a .energy .now) b (length-energies (b * a .n) (a .n) v (w .0)) (w .1) (at .loop .inv .1) (c .before .before .fill-energy .ensures))
 
 returns : tie.Need-returns Inv-loop μ-loop
 returns c =

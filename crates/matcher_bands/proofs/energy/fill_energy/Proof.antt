@@ -7,13 +7,13 @@ use lib.Ieee.{nan, ofBits}
 use borrow.Author.Needs.{needs}
 use Rattle.numbers_spec.specs.Arithmetic.{_⊗_}
 use Rattle.numbers_spec.specs.Rows.{sumTo}
-use Rattle.matcher_spec.specs.Energy.{energy, energies}
+use Rattle.matcher_spec.specs.Energy.{energyTo, energies}
 use Rattle.numbers_spec.proofs.RowLaws.{Filled, filled-none, filled-more, whole-row, sum-more}
 use Rattle.matcher_bands.proofs.energy.fill_energy.Statement.{statement}
 use Rattle.matcher_bands.proofs.energy.fill_energy.Tie as tie
 
 abbrev Inv-loop : tie.InvT-loop
-Inv-loop row₀ values n sum₀ i₀ row sum i = (i ≤ length values) × (length row ≡ length row₀) × (sum ≡ energy values i) × Filled (energy values) row₀ i row
+Inv-loop row₀ values n sum₀ i₀ row sum i = (i ≤ length values) × (length row ≡ length row₀) × (sum ≡ energyTo values i) × Filled (energyTo values) row₀ i row
 
 abbrev μ-loop : tie.MeasureT-loop
 μ-loop row₀ values n sum₀ i₀ row sum i = length values - i
@@ -32,7 +32,7 @@ loop-again c =
       omega arith,
       length-set (at .loop .row) i (at .loop .sum) ∙ inv .1,
       sum-more (λ (k : ℕ). getD v k nan ⊗ getD v k nan) i (inv .2) (λ k. c .widen .ensures k ⊗ c .widen .ensures k),
-      filled-more (energy v) (a .row .now) i (inv .3) (inv .2) (omega arith),
+      filled-more (energyTo v) (a .row .now) i (inv .3) (inv .2) (omega arith),
     )
 
 same-length : tie.Need-same-length Inv-loop μ-loop
@@ -45,7 +45,7 @@ returns c =
     let v = a .values .now in
     let inv = at .loop .inv in
     let e : at .loop .i ≡ length v = omega arith in
-    rw e at (filled-more (energy v) (a .row .now) (at .loop .i) (inv .3) (inv .2) (omega arith)) ∙ whole-row (energies v) (a .row .now) (length v + 1) (omega arith)
+    rw e at (filled-more (energyTo v) (a .row .now) (at .loop .i) (inv .3) (inv .2) (omega arith)) ∙ whole-row (energies v) (a .row .now) (length v + 1) (omega arith)
 
 pub fill-energy-spec : {M : Type 1} → statement M
 fill-energy-spec =

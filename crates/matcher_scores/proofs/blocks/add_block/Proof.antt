@@ -21,7 +21,7 @@ returns c =
     c .before .before .add-quotients .ensures
     ∙ tabulate-ext _ _ _ (λ i (h : i < length (a .scores .now)).
     ap (λ (x : Float). getD (a .scores .now) i nan ⊕ x)
-    (quotient-is (a .reference .now) (a .squares .now) (a .query .now) (a .floor) (a .whole) (length (a .dotted .now)) (length (a .products .now)) i
+    (quotient-is (a .reference .now) (a .energy .now) (a .query .now) (a .floor) (a .whole) (length (a .dotted .now)) (length (a .products .now)) i
     (filled .fill-products .ensures) (rooted .root-row .ensures) (dotted .dots .ensures) (omega arith) (omega arith)))
 
 pub add-block-spec : {M : Type 1} → statement M

@@ -9,11 +9,11 @@ use Rattle.matcher_scores.proofs.blocks.fill_products.Statement.{statem
 use Rattle.matcher_scores.proofs.blocks.fill_products.Tie as tie
 
 abbrev Inv-loop : tie.InvT-loop
-Inv-loop products₀ squares count floor whole i₀ products i =
-    Filling (λ (i : ℕ). whole ⊗ atLeast floor (getD squares (i + count) nan ⊖ getD squares i nan)) products₀ i products
+Inv-loop products₀ energy count floor whole i₀ products i =
+    Filling (λ (i : ℕ). whole ⊗ atLeast floor (getD energy (i + count) nan ⊖ getD energy i nan)) products₀ i products
 
 abbrev μ-loop : tie.MeasureT-loop
-μ-loop products₀ squares count floor whole i₀ products i = length products₀ - i
+μ-loop products₀ energy count floor whole i₀ products i = length products₀ - i
 
 loop-again : tie.Need-loop-again Inv-loop μ-loop
 loop-again c = filling-more (c .before .before .before .before .loop .inv) (rw (c .at-least .ensures)) (omega arith)

@@ -11,12 +11,12 @@ use Rattle.matcher_scores.proofs.scores.add_band.Statement.{statement}
 use Rattle.matcher_scores.proofs.scores.add_band.Tie as tie
 
 abbrev Inv-loop : tie.InvT-loop
-Inv-loop scores₀ reference squares query floor energy low dotted₀ products₀ roots₀ i₀ scores dotted products roots i =
-    Filling (added reference squares query floor energy scores₀ low) scores₀ i scores
+Inv-loop scores₀ reference energy query floor whole low dotted₀ products₀ roots₀ i₀ scores dotted products roots i =
+    Filling (added reference energy query floor whole scores₀ low) scores₀ i scores
     × (length dotted ≡ 120) × (length products ≡ 120) × (length roots ≡ 120)
 
 abbrev μ-loop : tie.MeasureT-loop
-μ-loop scores₀ reference squares query floor energy low dotted₀ products₀ roots₀ i₀ scores dotted products roots i = length scores₀ - i
+μ-loop scores₀ reference energy query floor whole low dotted₀ products₀ roots₀ i₀ scores dotted products roots i = length scores₀ - i
 
 loop-holds : tie.Need-loop-holds Inv-loop μ-loop
 loop-holds c = (filling-none _ _, omega arith, omega arith, omega arith)

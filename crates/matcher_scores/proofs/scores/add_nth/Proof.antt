@@ -11,9 +11,9 @@ returns : tie.Need-returns
 unfolding termAt
 returns c =
     let at = c .before .before .before .before .before .before .before .before in
-    let energy = at .before .before .before .before .before .before .before .before .at-least .ensures in
+    let whole = at .before .before .before .before .before .before .before .before .at-least .ensures in
     let floor = at .before .before .before .before .before .before .before .before .before .before .variance-floor .ensures in
-    at .add-band .ensures ∙ simp (add-sub-cancel-left, add-one, energy, floor)
+    at .add-band .ensures ∙ simp (add-sub-cancel-left, add-one, whole, floor)
 
 pub add-nth-spec : {M : Type 1} → statement M
 add-nth-spec =

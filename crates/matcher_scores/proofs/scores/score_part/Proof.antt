@@ -11,11 +11,11 @@ use Rattle.matcher_scores.proofs.scores.score_part.Statement.{statement
 use Rattle.matcher_scores.proofs.scores.score_part.Tie as tie
 
 abbrev Inv-loop : tie.InvT-loop
-Inv-loop reference squares frames query query-squares count bands start low high score₀ b₀ score b =
-    (b ≤ bands) × (score ≡ sumTo (partAt (bandsOf frames reference squares) (bandsOf count query query-squares) start low high) b)
+Inv-loop reference energy frames query query-energy count bands start low high score₀ b₀ score b =
+    (b ≤ bands) × (score ≡ sumTo (partAt (bandsOf frames reference energy) (bandsOf count query query-energy) start low high) b)
 
 abbrev μ-loop : tie.MeasureT-loop
-μ-loop reference squares frames query query-squares count bands start low high score₀ b₀ score b = bands - b
+μ-loop reference energy frames query query-energy count bands start low high score₀ b₀ score b = bands - b
 
 loop-holds : tie.Need-loop-holds Inv-loop μ-loop
 unfolding sumTo ofBits

@@ -16,15 +16,15 @@ use Rattle.matcher_scores.proofs.scores.sum_bands.Tie as tie
 
 -- what the first b bands add at each of n places
 abbrev sums : Bands → ℕ → List Float → List Float → ℕ → ℕ → ℕ → List Float
-sums reference count query wholes low b n = tabulate (λ (i : ℕ). sumTo (termAt reference count query wholes (low + i)) b) n
+sums reference count query whole low b n = tabulate (λ (i : ℕ). sumTo (termAt reference count query whole (low + i)) b) n
 
 abbrev Inv-loop : tie.InvT-loop
-Inv-loop scores₀ reference squares frames query wholes count bands low dotted₀ products₀ roots₀ b₀ scores dotted products roots b =
-    (b ≤ bands) × (length scores ≡ length scores₀) × (scores ≡ sums (bandsOf frames reference squares) count query wholes low b (length scores₀))
+Inv-loop scores₀ reference energy frames query whole count bands low dotted₀ products₀ roots₀ b₀ scores dotted products roots b =
+    (b ≤ bands) × (length scores ≡ length scores₀) × (scores ≡ sums (bandsOf frames reference energy) count query whole low b (length scores₀))
     × (length dotted ≡ 120) × (length products ≡ 120) × (length roots ≡ 120)
 
 abbrev μ-loop : tie.MeasureT-loop
-μ-loop scores₀ reference squares frames query wholes count bands low dotted₀ products₀ roots₀ b₀ scores dotted products roots b = bands - b
+μ-loop scores₀ reference energy frames query whole count bands low dotted₀ products₀ roots₀ b₀ scores dotted products roots b = bands - b
 
 loop-holds : tie.Need-loop-holds Inv-loop μ-loop
 unfolding sumTo
@@ -55,7 +55,7 @@ loop-again c =
     let inv = at .loop .inv in
     let v = added .add-nth in
     let rows = v .kept .1 .1 .1 .1 .1 .1 .1 .1 .1 in
-    let t : ℕ → ℕ → Float = λ i. termAt (bandsOf (a .frames) (a .reference .now) (a .squares .now)) (a .count) (a .query .now) (a .wholes .now) (a .low + i) in (
+    let t : ℕ → ℕ → Float = λ i. termAt (bandsOf (a .frames) (a .reference .now) (a .energy .now)) (a .count) (a .query .now) (a .whole .now) (a .low + i) in (
       omega arith,
       v .kept .0 ∙ inv .1,
       v .ensures ∙ rw add-one (tabulate-then (λ (i : ℕ). sumTo (t i) b) (λ (i : ℕ) (s : Float). s ⊕ t i b) nan _ (inv .2)),

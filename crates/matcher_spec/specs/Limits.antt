@@ -1,5 +1,5 @@
--- The ranges that document 01 sets, each under one name. Definitions only.
-use Prim.Native.Nat.{ℕ}
+-- The ranges that document 01 sets, each under one name; src/limits.rt has the same names for the code. Definitions only.
+use Prim.Native.Nat.{ℕ, _^_}
 use lib.Ieee.{Float, binary64, ofBits}
 use Rattle.numbers_spec.specs.Arithmetic.{one}
 
@@ -21,10 +21,17 @@ windowMost = 1024
 abbrev pub bandsMost : ℕ
 bandsMost = 64
 
--- 10^12: no time lies further from 0,
+-- A search lists 8 candidates at most.
+abbrev pub candidatesMost : ℕ
+candidatesMost = 8
+
+-- 10^12: no time lies further from 0; as a float, and as a whole number,
 abbrev pub farthestMs : Float
 farthestMs = ofBits binary64 0x426d1a94a2000000
 
--- 10^13: and no number of a track or an estimate that a state holds.
+abbrev pub farthest : ℕ
+farthest = 10 ^ 12
+
+-- 10^13: and no number of a candidate, a track or an estimate.
 abbrev pub trackMost : Float
 trackMost = ofBits binary64 0x42a2309ce5400000

@@ -14,8 +14,8 @@ pub const BANDS_MOST: usize = 64;
 // No time lies further from 0,
 pub const FARTHEST_MS: f64 = 1000000000000.0;
 
-// and no number of a track or an estimate that a state holds.
+// and no number of a candidate, a track or an estimate.
 pub const TRACK_MOST: f64 = 10000000000000.0;
 
-// A snapshot has so many candidates at most.
+// Of a search, and of a snapshot.
 pub const CANDIDATES_MOST: usize = 8;

@@ -6,14 +6,15 @@ use mathlib.Core.Path.{_≡_}
 use lib.Dec.{T}
 use lib.ListN.{length, getD}
 use lib.Ieee.{Float}
-use Rattle.matcher_spec.specs.Words.{Every, F32}
-use Rattle.engine_spec.specs.Windows.{Soundtrack, Index, indexed}
+use Rattle.numbers_spec.specs.Rows.{Every, F32}
+use Rattle.engine_spec.specs.Windows.{Index, indexed}
+use Rattle.matcher_spec.specs.Features.{Features}
 use Rattle.engine_spec.specs.Refusals.{Submission, refuses, handedRefusal, submissionRefusal}
-use Rattle.engine_spec.specs.Opening.{opening, openedIndex, openedSettings, matcherOfFilm}
+use Rattle.engine_spec.specs.Opening.{opening, openedIndex, openedSettings, matcherOfReference}
 use Rattle.engine_spec.specs.Guarantee.{answersTo, engineAfter, AllHanded, FilledWith, Promised, unanswered}
 use Rattle.engine_spec.specs.declared.types.Configuration.{Configuration}
 use Rattle.engine_spec.specs.declared.types.Engine.{Engine}
-use Rattle.engine_spec.specs.declared.types.Opened.{Opened}
+use Rattle.engine_spec.specs.declared.types.OpenResult.{OpenResult}
 use Rattle.engine_spec.specs.declared.types.State.{State}
 use Rattle.engine_spec.specs.declared.types.State.the-variants as state
 use Rattle.engine_spec.specs.declared.types.Answer.the-variants as answer
@@ -21,8 +22,8 @@ use Rattle.engine_spec.specs.declared.types.Answer.the-variants as answe
 -- P holds of the state after every list of submissions to an engine that opening gave.
 abbrev pub OfReached : (Engine → List Submission → Type 0) → Type 0
 OfReached P =
-    (c : Configuration) (hop : Float) (film : Soundtrack) (x : Index) → Every F32 (film .values) → opening c hop film x .answer ≡ answer.Opened
-    → (l : List Submission) → AllHanded (openedSettings c hop film) (matcherOfFilm hop film) l → P (opening c hop film x .engine) l
+    (c : Configuration) (hop : Float) (reference : Features) (x : Index) → Every F32 (reference .values) → opening c hop reference x .answer ≡ answer.Opened
+    → (l : List Submission) → AllHanded (openedSettings c hop reference) (matcherOfReference hop reference) l → P (opening c hop reference x .engine) l
 
 -- No state reached is refused with 7, and a submission to it is refused for nothing but its own index, clock, window and buffers.
 abbrev pub NeverSeven : Type 0
@@ -51,13 +52,13 @@ NeverConfirmed =
 -- What opening leaves in the four buffers is what the guarantee asks of a lent index.
 abbrev pub OpenedFilled : Type 0
 OpenedFilled =
-    (c : Configuration) (hop : Float) (film : Soundtrack) (x : Index) → opening c hop film x .answer ≡ answer.Opened → T (indexed (openedSettings c hop film))
-    → FilledWith (matcherOfFilm hop film) (openedIndex c hop film x)
+    (c : Configuration) (hop : Float) (reference : Features) (x : Index) → opening c hop reference x .answer ≡ answer.Opened → T (indexed (openedSettings c hop reference))
+    → FilledWith (matcherOfReference hop reference) (openedIndex c hop reference x)
 
 -- ---- what opening's contract says of all that is submitted to what it opened
 -- The guarantee, that none of it is refused with 7, and that the buffers as opening leaves them are the index that the guarantee asks for. `r` is what opening gave, `filled` what the four buffers hold then.
-pub record Guaranteed (c : Configuration) (hop : Float) (film : Soundtrack) (filled : Index) (r : Opened) : Type 0 where
-  pub promised : r .answer ≡ answer.Opened → (l : List Submission) → AllHanded (openedSettings c hop film) (matcherOfFilm hop film) l → Promised (r .engine) (matcherOfFilm hop film) l
-  pub never-seven : r .answer ≡ answer.Opened → (l : List Submission) → AllHanded (openedSettings c hop film) (matcherOfFilm hop film) l
+pub record Guaranteed (c : Configuration) (hop : Float) (reference : Features) (filled : Index) (r : OpenResult) : Type 0 where
+  pub promised : r .answer ≡ answer.Opened → (l : List Submission) → AllHanded (openedSettings c hop reference) (matcherOfReference hop reference) l → Promised (r .engine) (matcherOfReference hop reference) l
+  pub never-seven : r .answer ≡ answer.Opened → (l : List Submission) → AllHanded (openedSettings c hop reference) (matcherOfReference hop reference) l
       → (i : Submission) → submissionRefusal (engineAfter (r .engine) l) i ≡ handedRefusal (r .engine .settings) i
-  pub index : r .answer ≡ answer.Opened → T (indexed (openedSettings c hop film)) → FilledWith (matcherOfFilm hop film) filled
+  pub index : r .answer ≡ answer.Opened → T (indexed (openedSettings c hop reference)) → FilledWith (matcherOfReference hop reference) filled
