@@ -10,8 +10,8 @@ ghost use Rattle.engine_snapshot.specs.Shown.{shownArray};
 use engine_spec::thresholds::TRIMMED_MS;
 use engine_spec::types::CandidateDiagnostics;
 use matcher_bands::centring::context_frames;
-use matcher_bands::counts::less;
 use matcher_spec::types::MatchResult;
+use numbers::counts::saturating_sub;
 use numbers::float::at_least;
 use numbers::whole::count;
 
@@ -61,7 +61,7 @@ pub fn comparable_frames(
     ensures { λ r. ⌜ r ≡ comparableFrames hop (window bands (now (times .entry)) (now (energies .entry)) (now (values .entry))) ⌝ }
 {
     let trimmed = count(context_frames(hop));
-    less(less(times.len(), trimmed), trimmed)
+    saturating_sub(saturating_sub(times.len(), trimmed), trimmed)
 }
 
 // The part of the window that centring leaves, by its duration.

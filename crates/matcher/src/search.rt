@@ -1,5 +1,5 @@
 // Whole and local search.
-ghost use Prim.Native.Nat.{ℕ, _+_, _-_, _*_, _/_, _<_, _≤_};
+ghost use Prim.Native.Nat.{ℕ, suc, _+_, _-_, _*_, _/_, _<_, _≤_};
 ghost use lib.ListN.{drop, getD, length, take};
 ghost use mathlib.Core.Bool.{true};
 ghost use mathlib.Core.List.{[], _∷_};
@@ -8,15 +8,13 @@ ghost use Rattle.matcher_spec.specs.Candidates.{listed, resultOf, sortInto, sor
 ghost use Rattle.matcher_spec.specs.Energy.{allEnergies, bandsOf, reduced, wholeEnergies};
 ghost use Rattle.matcher_spec.specs.Index.{lentBands, lentMatcher};
 ghost use Rattle.matcher_spec.specs.Centring.{wideHop};
+ghost use Rattle.matcher_spec.specs.Limits.{framesMost, bandsMost, candidatesMost};
 ghost use Rattle.matcher_spec.specs.Peaks.{peaks};
 ghost use Rattle.matcher_spec.specs.Scores.{correlations};
 ghost use Rattle.matcher_spec.specs.Search.{FilledQuery, candidateIn, candidateOf, candidatesAt, clamped, coarseScores, fraction, localFound, localSearch, queryValues, searchable, separation, vertex, wholeFound, wholeSearch};
 ghost use Rattle.matcher_spec.specs.Features.{features};
 use matcher_bands::centring::centre_bands;
 use matcher_bands::centring::radius;
-use matcher_bands::counts::largest;
-use matcher_bands::counts::least;
-use matcher_bands::counts::less;
 use matcher_bands::energy::fill_energies;
 use matcher_bands::energy::reduce_within;
 use matcher_bands::energy::whole_energies;
@@ -34,6 +32,9 @@ use matcher_scores::scores::score_part;
 use matcher_spec::types::Candidate;
 use matcher_spec::types::MatchResult;
 use matcher_spec::types::Reference;
+use numbers::counts::max;
+use numbers::counts::min;
+use numbers::counts::saturating_sub;
 use numbers::float::at_least;
 use numbers::float::at_most;
 use numbers::float::is_finite;
@@ -87,12 +88,12 @@ pub fn local_found(
     work32: &[f32],
     work64: &mut [f64],
 ) -> MatchResult
-    requires { ⌜ wideHop (reference .«hop_ms») ≡ true ⌝ ∗ ⌜ 0 < reference .bands ⌝ ∗ ⌜ reference .bands ≤ 64 ⌝ ∗ ⌜ reference .frames ≤ 65535 ⌝ }
+    requires { ⌜ wideHop (reference .«hop_ms») ≡ true ⌝ ∗ ⌜ 0 < reference .bands ⌝ ∗ ⌜ reference .bands ≤ bandsMost ⌝ ∗ ⌜ reference .frames ≤ framesMost ⌝ }
     requires { ⌜ reference .bands * reference .frames ≤ length (now fine) ⌝ ∗ ⌜ reference .bands * (reference .frames + 1) ≤ length (now energy) ⌝ }
     requires { ⌜ 2 * (bands * length (now times)) ≤ length (now work32) ⌝ ∗ ⌜ 3 * (bands * (length (now times) + 1)) + reference .frames ≤ length (now work64) ⌝ }
     requires { ⌜ FilledQuery reference (features bands (now times) (now values)) filled (now work32) (now work64) ⌝ }
     ensures { λ r. ⌜ r ≡ resultOf (localSearch reference (lentBands (reference .bands) (reference .frames) (now (fine .entry)) (now (energy .entry))) (features bands (now (times .entry)) (now (values .entry))) lower upper) ⌝ }
-    ensures { λ r. ⌜ r .count ≤ 8 ⌝ }
+    ensures { λ r. ⌜ r .count ≤ candidatesMost ⌝ }
     ensures { λ _. ⌜ FilledQuery reference (features bands (now (times .entry)) (now (values .entry))) filled (now (work32 .entry)) (now (work64 .exit)) ⌝ }
 {
     if !filled {
@@ -128,13 +129,13 @@ pub fn whole_found(
     work32: &mut [f32],
     work64: &mut [f64],
 ) -> MatchResult
-    requires { ⌜ wideHop (reference .«hop_ms») ≡ true ⌝ ∗ ⌜ 0 < reference .bands ⌝ ∗ ⌜ reference .bands ≤ 64 ⌝ ∗ ⌜ reference .frames ≤ 65535 ⌝ }
+    requires { ⌜ wideHop (reference .«hop_ms») ≡ true ⌝ ∗ ⌜ 0 < reference .bands ⌝ ∗ ⌜ reference .bands ≤ bandsMost ⌝ ∗ ⌜ reference .frames ≤ framesMost ⌝ }
     requires { ⌜ reference .bands * reference .frames ≤ length (now fine) ⌝ ∗ ⌜ reference .bands * (reference .frames + 1) ≤ length (now «fine_energy») ⌝ }
     requires { ⌜ reference .bands * (reference .frames / 4) ≤ length (now coarse) ⌝ ∗ ⌜ reference .bands * (reference .frames / 4 + 1) ≤ length (now «coarse_energy») ⌝ }
     requires { ⌜ 2 * (bands * length (now times)) ≤ length (now work32) ⌝ ∗ ⌜ 3 * (bands * (length (now times) + 1)) + reference .frames ≤ length (now work64) ⌝ }
     requires { ⌜ FilledQuery reference (features bands (now times) (now values)) filled (now work32) (now work64) ⌝ }
     ensures { λ r. ⌜ r ≡ resultOf (wholeSearch (lentMatcher reference (now (fine .entry)) (now (coarse .entry)) (now («fine_energy» .entry)) (now («coarse_energy» .entry))) (features bands (now (times .entry)) (now (values .entry)))) ⌝ }
-    ensures { λ r. ⌜ r .count ≤ 8 ⌝ }
+    ensures { λ r. ⌜ r .count ≤ candidatesMost ⌝ }
 {
     if !filled {
         return nothing_found();
@@ -169,7 +170,7 @@ pub fn whole_search(
     work32: &mut [f32],
     work64: &mut [f64],
 ) -> MatchResult
-    requires { ⌜ wideHop (reference .«hop_ms») ≡ true ⌝ ∗ ⌜ 0 < reference .bands ⌝ ∗ ⌜ reference .bands ≤ 64 ⌝ ∗ ⌜ reference .frames ≤ 65535 ⌝ }
+    requires { ⌜ wideHop (reference .«hop_ms») ≡ true ⌝ ∗ ⌜ 0 < reference .bands ⌝ ∗ ⌜ reference .bands ≤ bandsMost ⌝ ∗ ⌜ reference .frames ≤ framesMost ⌝ }
     requires { ⌜ reference .bands * reference .frames ≤ length (now fine) ⌝ ∗ ⌜ reference .bands * (reference .frames + 1) ≤ length (now «fine_energy») ⌝ }
     requires { ⌜ reference .bands * (reference .frames / 4) ≤ length (now coarse) ⌝ ∗ ⌜ reference .bands * (reference .frames / 4 + 1) ≤ length (now «coarse_energy») ⌝ }
     requires { ⌜ length (now values) ≡ bands * length (now times) ⌝ ∗ ⌜ 2 * (bands * length (now times)) ≤ length (now work32) ⌝ ∗ ⌜ 3 * (bands * (length (now times) + 1)) + reference .frames ≤ length (now work64) ⌝ }
@@ -204,7 +205,7 @@ pub fn local_search(
     work32: &mut [f32],
     work64: &mut [f64],
 ) -> MatchResult
-    requires { ⌜ wideHop (reference .«hop_ms») ≡ true ⌝ ∗ ⌜ 0 < reference .bands ⌝ ∗ ⌜ reference .bands ≤ 64 ⌝ ∗ ⌜ reference .frames ≤ 65535 ⌝ }
+    requires { ⌜ wideHop (reference .«hop_ms») ≡ true ⌝ ∗ ⌜ 0 < reference .bands ⌝ ∗ ⌜ reference .bands ≤ bandsMost ⌝ ∗ ⌜ reference .frames ≤ framesMost ⌝ }
     requires { ⌜ reference .bands * reference .frames ≤ length (now fine) ⌝ ∗ ⌜ reference .bands * (reference .frames + 1) ≤ length (now energy) ⌝ }
     requires { ⌜ length (now values) ≡ bands * length (now times) ⌝ ∗ ⌜ 2 * (bands * length (now times)) ≤ length (now work32) ⌝ ∗ ⌜ 3 * (bands * (length (now times) + 1)) + reference .frames ≤ length (now work64) ⌝ }
     ensures { λ r. ⌜ r ≡ resultOf (localSearch reference (lentBands (reference .bands) (reference .frames) (now (fine .entry)) (now (energy .entry))) (features bands (now (times .entry)) (now (values .entry))) lower upper) ⌝ }
@@ -234,7 +235,7 @@ fn is_searchable(reference: Reference, bands: usize, times: &[f64], values: &[f3
     let frames = times.len();
     accepts_timeline(reference.bands, reference.hop_ms, bands, times)
         & ((frames > margin + 16)
-            & (are_valid(values) & (less(frames, margin) <= reference.frames)))
+            & (are_valid(values) & (saturating_sub(frames, margin) <= reference.frames)))
 }
 
 // Centres the window's bands at the front of `query`, and sums up their energies at the front of
@@ -281,7 +282,7 @@ fn local_candidates(
     work32: &[f32],
     work64: &mut [f64],
 ) -> MatchResult
-    requires { ⌜ reference .bands ≤ 64 ⌝ ∗ ⌜ 0 < n ⌝ ∗ ⌜ n ≤ reference .frames ⌝ ∗ ⌜ reference .frames ≤ 65535 ⌝ }
+    requires { ⌜ reference .bands ≤ bandsMost ⌝ ∗ ⌜ 0 < n ⌝ ∗ ⌜ n ≤ reference .frames ⌝ ∗ ⌜ reference .frames ≤ framesMost ⌝ }
     requires { ⌜ reference .bands * reference .frames ≤ length (now fine) ⌝ ∗ ⌜ reference .bands * (reference .frames + 1) ≤ length (now energy) ⌝ }
     requires { ⌜ reference .bands * n ≤ length (now work32) ⌝ ∗ ⌜ reference .bands * (n + 1) + reference .frames ≤ length (now work64) ⌝ }
     ensures { λ r. ⌜ r ≡ resultOf (localFound reference (lentBands (reference .bands) (reference .frames) (now (fine .entry)) (now (energy .entry))) (lentBands (reference .bands) n (now (work32 .entry)) (now (work64 .entry))) start lower upper) ⌝ }
@@ -326,7 +327,7 @@ fn query_candidate(
     work32: &[f32],
     work64: &mut [f64],
 ) -> Candidate
-    requires { ⌜ reference .bands ≤ 64 ⌝ ∗ ⌜ 0 < n ⌝ ∗ ⌜ low ≤ high ⌝ ∗ ⌜ high + n ≤ reference .frames ⌝ ∗ ⌜ reference .frames ≤ 65535 ⌝ }
+    requires { ⌜ reference .bands ≤ bandsMost ⌝ ∗ ⌜ 0 < n ⌝ ∗ ⌜ low ≤ high ⌝ ∗ ⌜ high + n ≤ reference .frames ⌝ ∗ ⌜ reference .frames ≤ framesMost ⌝ }
     requires { ⌜ reference .bands * reference .frames ≤ length (now fine) ⌝ ∗ ⌜ reference .bands * (reference .frames + 1) ≤ length (now energy) ⌝ }
     requires { ⌜ reference .bands * n ≤ length (now work32) ⌝ ∗ ⌜ reference .bands * (n + 1) + reference .frames ≤ length (now work64) ⌝ }
     ensures { λ r. ⌜ r ≡ candidateIn reference (lentBands (reference .bands) (reference .frames) (now (fine .entry)) (now (energy .entry))) (lentBands (reference .bands) n (now (work32 .entry)) (now (work64 .entry))) start low high ⌝ }
@@ -365,7 +366,7 @@ fn best_candidate(
     low: usize,
     high: usize,
 ) -> Candidate
-    requires { ⌜ reference .bands ≤ 64 ⌝ ∗ ⌜ low ≤ high ⌝ ∗ ⌜ high + n ≤ reference .frames ⌝ ∗ ⌜ reference .frames ≤ 65535 ⌝ }
+    requires { ⌜ reference .bands ≤ bandsMost ⌝ ∗ ⌜ low ≤ high ⌝ ∗ ⌜ high + n ≤ reference .frames ⌝ ∗ ⌜ reference .frames ≤ framesMost ⌝ }
     requires { ⌜ reference .bands * reference .frames ≤ length (now fine) ⌝ ∗ ⌜ reference .bands * (reference .frames + 1) ≤ length (now energy) ⌝ }
     requires { ⌜ reference .bands * n ≤ length (now query) ⌝ ∗ ⌜ reference .bands * (n + 1) ≤ at ⌝ ∗ ⌜ at + reference .frames ≤ length (now work) ⌝ ∗ ⌜ 0 < n ⌝ }
     ensures { λ r. ⌜ r ≡ candidateIn reference (bandsOf (reference .frames) (now (fine .entry)) (now (energy .entry))) (bandsOf n (now (query .entry)) (take (reference .bands * (n + 1)) (now (work .entry)))) start low high ⌝ }
@@ -415,7 +416,7 @@ fn score_places(
     low: usize,
     places: usize,
 )
-    requires { ⌜ bands ≤ 64 ⌝ ∗ ⌜ frames ≤ 65535 ⌝ ∗ ⌜ low + places + n ≤ frames + 1 ⌝ }
+    requires { ⌜ bands ≤ bandsMost ⌝ ∗ ⌜ frames ≤ framesMost ⌝ ∗ ⌜ low + places + n ≤ frames + 1 ⌝ }
     requires { ⌜ bands * frames ≤ length (now reference) ⌝ ∗ ⌜ bands * (frames + 1) ≤ length (now energy) ⌝ }
     requires { ⌜ bands * n ≤ length (now query) ⌝ ∗ ⌜ from + bands * (n + 1) ≤ at ⌝ ∗ ⌜ at + places ≤ length (now work) ⌝ }
     ensures { λ _. ⌜ take places (drop at (now (work .exit))) ≡ correlations bands (bandsOf frames (now (reference .entry)) (now (energy .entry))) n (now (query .entry)) (wholeEnergies bands (bandsOf n [] (take (bands * (n + 1)) (drop from (now (work .entry)))))) low places ⌝ }
@@ -460,7 +461,7 @@ fn candidate_of(
     let peak = first_maximum(scores);
     let index = low + peak;
     let half = n / 2;
-    let recent = less(n, count(1000.0 / hop));
+    let recent = saturating_sub(n, count(1000.0 / hop));
     Candidate {
         offset_ms: reference.start_ms + (real(index) + fraction_at(scores, peak)) * hop - start,
         score: scores[peak],
@@ -550,12 +551,12 @@ fn whole_candidates(
     work32: &mut [f32],
     work64: &mut [f64],
 ) -> MatchResult
-    requires { ⌜ reference .bands ≤ 64 ⌝ ∗ ⌜ 0 < n ⌝ ∗ ⌜ n ≤ reference .frames ⌝ ∗ ⌜ reference .frames ≤ 65535 ⌝ }
+    requires { ⌜ reference .bands ≤ bandsMost ⌝ ∗ ⌜ 0 < n ⌝ ∗ ⌜ n ≤ reference .frames ⌝ ∗ ⌜ reference .frames ≤ framesMost ⌝ }
     requires { ⌜ reference .bands * reference .frames ≤ length (now fine) ⌝ ∗ ⌜ reference .bands * (reference .frames + 1) ≤ length (now «fine_energy») ⌝ }
     requires { ⌜ reference .bands * (reference .frames / 4) ≤ length (now coarse) ⌝ ∗ ⌜ reference .bands * (reference .frames / 4 + 1) ≤ length (now «coarse_energy») ⌝ }
     requires { ⌜ 2 * (reference .bands * n) ≤ length (now work32) ⌝ ∗ ⌜ 2 * (reference .bands * (n + 1)) + reference .frames ≤ length (now work64) ⌝ }
     ensures { λ r. ⌜ r ≡ resultOf (wholeFound (lentMatcher reference (now (fine .entry)) (now (coarse .entry)) (now («fine_energy» .entry)) (now («coarse_energy» .entry))) (lentBands (reference .bands) n (now (work32 .entry)) (now (work64 .entry))) start) ⌝ }
-    ensures { λ r. ⌜ r .count ≤ 8 ⌝ }
+    ensures { λ r. ⌜ r .count ≤ candidatesMost ⌝ }
 {
     let bands = reference.bands;
     let end = bands * reference.frames;
@@ -587,12 +588,12 @@ fn query_peaks(
     work32: &mut [f32],
     work64: &mut [f64],
 ) -> Picked
-    requires { ⌜ reference .bands ≤ 64 ⌝ ∗ ⌜ 0 < n ⌝ ∗ ⌜ n ≤ reference .frames ⌝ ∗ ⌜ reference .frames ≤ 65535 ⌝ }
+    requires { ⌜ reference .bands ≤ bandsMost ⌝ ∗ ⌜ 0 < n ⌝ ∗ ⌜ n ≤ reference .frames ⌝ ∗ ⌜ reference .frames ≤ framesMost ⌝ }
     requires { ⌜ reference .bands * (reference .frames / 4) ≤ length (now coarse) ⌝ ∗ ⌜ reference .bands * (reference .frames / 4 + 1) ≤ length (now energy) ⌝ }
     requires { ⌜ 2 * (reference .bands * n) ≤ length (now work32) ⌝ ∗ ⌜ 2 * (reference .bands * (n + 1)) + reference .frames ≤ length (now work64) ⌝ }
-    ensures { λ r. ⌜ r .count ≤ 8 ⌝ }
+    ensures { λ r. ⌜ r .count ≤ candidatesMost ⌝ }
     ensures { λ r. ⌜ take (r .count) (r .at) ≡ peaks (coarseScores (reference .bands) (lentBands (reference .bands) (reference .frames / 4) (now (coarse .entry)) (now (energy .entry))) (lentBands (reference .bands) n (now (work32 .entry)) (now (work64 .entry)))) (separation (reference .«hop_ms»)) ⌝ }
-    ensures { λ r. ⌜ ((k : ℕ) → getD (r .at) k 0 ≤ 65536) ⌝ }
+    ensures { λ r. ⌜ ((k : ℕ) → getD (r .at) k 0 ≤ suc framesMost) ⌝ }
     ensures { λ _. ⌜ lentBands (reference .bands) n (now (work32 .exit)) (now (work64 .exit)) ≡ lentBands (reference .bands) n (now (work32 .entry)) (now (work64 .entry)) ⌝ }
 {
     let bands = reference.bands;
@@ -626,12 +627,12 @@ fn coarse_peaks(
     from: usize,
     at: usize,
 ) -> Picked
-    requires { ⌜ reference .bands ≤ 64 ⌝ ∗ ⌜ 0 < n ⌝ ∗ ⌜ n ≤ reference .frames ⌝ ∗ ⌜ reference .frames ≤ 65535 ⌝ }
+    requires { ⌜ reference .bands ≤ bandsMost ⌝ ∗ ⌜ 0 < n ⌝ ∗ ⌜ n ≤ reference .frames ⌝ ∗ ⌜ reference .frames ≤ framesMost ⌝ }
     requires { ⌜ reference .bands * (reference .frames / 4) ≤ length (now coarse) ⌝ ∗ ⌜ reference .bands * (reference .frames / 4 + 1) ≤ length (now energy) ⌝ }
     requires { ⌜ reference .bands * n ≤ from ⌝ ∗ ⌜ from + reference .bands * (n / 4) ≤ length (now query) ⌝ ∗ ⌜ at + reference .bands * (n / 4 + 1) + reference .frames ≤ length (now work) ⌝ }
-    ensures { λ r. ⌜ r .count ≤ 8 ⌝ }
+    ensures { λ r. ⌜ r .count ≤ candidatesMost ⌝ }
     ensures { λ r. ⌜ take (r .count) (r .at) ≡ peaks (coarseScores (reference .bands) (bandsOf (reference .frames / 4) (now (coarse .entry)) (now (energy .entry))) (bandsOf n (take (reference .bands * n) (now (query .entry))) [])) (separation (reference .«hop_ms»)) ⌝ }
-    ensures { λ r. ⌜ ((k : ℕ) → getD (r .at) k 0 ≤ 65536) ⌝ }
+    ensures { λ r. ⌜ ((k : ℕ) → getD (r .at) k 0 ≤ suc framesMost) ⌝ }
     ensures { λ _. ⌜ take from (now (query .exit)) ≡ take from (now (query .entry)) ⌝ }
     ensures { λ _. ⌜ take at (now (work .exit)) ≡ take at (now (work .entry)) ⌝ }
 {
@@ -679,7 +680,7 @@ fn reduce_query(query: &mut [f32], work: &mut [f64], bands: usize, n: usize, fro
 fn peak_separation(hop: f64) -> usize
     ensures { λ r. ⌜ r ≡ separation hop ⌝ }
 {
-    largest(1, count(750.0 / (hop * 4.0)))
+    max(1, count(750.0 / (hop * 4.0)))
 }
 
 // The candidates around the peaks, the best first. `work` has the query's energies at its front.
@@ -694,11 +695,11 @@ fn candidates_around(
     at: usize,
     picked: Picked,
 ) -> MatchResult
-    requires { ⌜ reference .bands ≤ 64 ⌝ ∗ ⌜ n ≤ reference .frames ⌝ ∗ ⌜ reference .frames ≤ 65535 ⌝ ∗ ⌜ picked .count ≤ 8 ⌝ }
+    requires { ⌜ reference .bands ≤ bandsMost ⌝ ∗ ⌜ n ≤ reference .frames ⌝ ∗ ⌜ reference .frames ≤ framesMost ⌝ ∗ ⌜ picked .count ≤ candidatesMost ⌝ }
     requires { ⌜ reference .bands * reference .frames ≤ length (now fine) ⌝ ∗ ⌜ reference .bands * (reference .frames + 1) ≤ length (now energy) ⌝ }
     requires { ⌜ reference .bands * n ≤ length (now query) ⌝ ∗ ⌜ reference .bands * (n + 1) ≤ at ⌝ ∗ ⌜ at + reference .frames ≤ length (now work) ⌝ ∗ ⌜ 0 < n ⌝ }
-    requires { ⌜ ((k : ℕ) → getD (picked .at) k 0 ≤ 65536) ⌝ }
-    ensures { λ r. ⌜ r .count ≤ 8 ⌝ }
+    requires { ⌜ ((k : ℕ) → getD (picked .at) k 0 ≤ suc framesMost) ⌝ }
+    ensures { λ r. ⌜ r .count ≤ candidatesMost ⌝ }
     ensures { λ r. ⌜ listed r ≡ sorted (candidatesAt reference (bandsOf (reference .frames) (now (fine .entry)) (now (energy .entry))) (bandsOf n (now (query .entry)) (take (reference .bands * (n + 1)) (now (work .entry)))) start (take (picked .count) (picked .at))) ⌝ }
 {
     let peaks = picked.at;
@@ -737,7 +738,7 @@ fn with_candidate(
     at: usize,
     peak: usize,
 ) -> MatchResult
-    requires { ⌜ found .count < 8 ⌝ ∗ ⌜ peak ≤ 65536 ⌝ ∗ ⌜ reference .bands ≤ 64 ⌝ ∗ ⌜ n ≤ reference .frames ⌝ ∗ ⌜ reference .frames ≤ 65535 ⌝ }
+    requires { ⌜ found .count < candidatesMost ⌝ ∗ ⌜ peak ≤ suc framesMost ⌝ ∗ ⌜ reference .bands ≤ bandsMost ⌝ ∗ ⌜ n ≤ reference .frames ⌝ ∗ ⌜ reference .frames ≤ framesMost ⌝ }
     requires { ⌜ reference .bands * reference .frames ≤ length (now fine) ⌝ ∗ ⌜ reference .bands * (reference .frames + 1) ≤ length (now energy) ⌝ }
     requires { ⌜ reference .bands * n ≤ length (now query) ⌝ ∗ ⌜ reference .bands * (n + 1) ≤ at ⌝ ∗ ⌜ at + reference .frames ≤ length (now work) ⌝ ∗ ⌜ 0 < n ⌝ }
     ensures { λ r. ⌜ r .count ≤ found .count + 1 ⌝ }
@@ -745,8 +746,8 @@ fn with_candidate(
     ensures { λ _. ⌜ take at (now (work .exit)) ≡ take at (now (work .entry)) ⌝ }
 {
     let centre = peak * 4;
-    let low = less(centre, 4);
-    let high = least(reference.frames - n, centre + 4);
+    let low = saturating_sub(centre, 4);
+    let high = min(reference.frames - n, centre + 4);
     if low <= high {
         let c = best_candidate(
             fine,

@@ -7,8 +7,8 @@ ghost use mathlib.Core.List.{_++_};
 ghost use mathlib.Core.Path.{_≡_};
 ghost use Rattle.matcher_spec.specs.Centring.{centred, centredAt, contextFrames, meanAround, radius, sumOf};
 ghost use Rattle.numbers_spec.specs.Rows.{row, rows, tabulate};
-use crate::counts::least;
-use crate::counts::less;
+use numbers::counts::min;
+use numbers::counts::saturating_sub;
 use numbers::float::at_least;
 use numbers::float::real;
 use numbers::float::widen;
@@ -81,10 +81,10 @@ fn mean_at_end(sums: &[f64], first: f32, last: f32, radius: usize, i: usize) -> 
 {
     let n = sums.len() - 1;
     let past = i + radius + 1;
-    let high = least(n, past);
-    let low = less(i, radius);
-    let before = real(less(radius, i)) * widen(first);
-    let after = real(less(past, n)) * widen(last);
+    let high = min(n, past);
+    let low = saturating_sub(i, radius);
+    let before = real(saturating_sub(radius, i)) * widen(first);
+    let after = real(saturating_sub(past, n)) * widen(last);
     narrow((sums[high] - sums[low] + before + after) / real(2 * radius + 1))
 }
 

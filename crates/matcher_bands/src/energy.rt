@@ -5,6 +5,8 @@ ghost use mathlib.Core.List.{[], _++_};
 ghost use mathlib.Core.Path.{_≡_};
 ghost use Rattle.matcher_spec.specs.Energy.{allAverages, allEnergies, average, averages, bandsOf, energies, wholeEnergies};
 ghost use Rattle.numbers_spec.specs.Rows.{row};
+ghost use Rattle.matcher_spec.specs.Limits.{bandsMost};
+use matcher_spec::limits::BANDS_MOST;
 use numbers::float::widen;
 
 // Fills the row with the prefix sums of the squares: one more than there are values.
@@ -41,11 +43,11 @@ pub fn fill_energies(energy: &mut [f64], values: &[f32], bands: usize, n: usize)
 }
 
 // Each band's whole energy; 0.0 past the last band.
-pub fn whole_energies(energy: &[f64], bands: usize, n: usize) -> [f64; 64]
-    requires { ⌜ bands ≤ 64 ⌝ ∗ ⌜ bands * (n + 1) ≤ length (now energy) ⌝ }
+pub fn whole_energies(energy: &[f64], bands: usize, n: usize) -> [f64; BANDS_MOST]
+    requires { ⌜ bands ≤ bandsMost ⌝ ∗ ⌜ bands * (n + 1) ≤ length (now energy) ⌝ }
     ensures { λ r. ⌜ take bands r ≡ wholeEnergies bands (bandsOf n [] (now (energy .entry))) ⌝ }
 {
-    let mut whole = [0.0f64; 64];
+    let mut whole = [0.0f64; BANDS_MOST];
     let mut b = 0usize;
     while b < bands {
         let last = b * (n + 1) + n;

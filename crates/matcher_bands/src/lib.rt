@@ -1,6 +1,5 @@
 // Bands of a reference or a window: which timelines and values are accepted, centring, energies,
 // averages by fours. Below the matcher, which alone calls it.
 pub mod centring;
-pub mod counts;
 pub mod energy;
 pub mod timeline;

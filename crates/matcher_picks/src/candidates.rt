@@ -3,6 +3,8 @@ ghost use Prim.Native.Nat.{_+_, _<_, _≤_};
 ghost use mathlib.Core.List.{[], _∷_, _++_};
 ghost use mathlib.Core.Path.{_≡_};
 ghost use Rattle.matcher_spec.specs.Candidates.{blank, crowded, independent, insert, listed, marginOf, resultOf};
+ghost use Rattle.matcher_spec.specs.Limits.{candidatesMost};
+use matcher_spec::limits::CANDIDATES_MOST;
 use matcher_spec::types::Candidate;
 use matcher_spec::types::MatchResult;
 use numbers::float::abs;
@@ -25,14 +27,14 @@ pub fn nothing_found() -> MatchResult
     ensures { λ r. ⌜ r ≡ resultOf [] ⌝ }
 {
     MatchResult {
-        candidates: [blank(); 8],
+        candidates: [blank(); CANDIDATES_MOST],
         count: 0,
     }
 }
 
 // The result with c put before the first candidate that scores lower.
 pub fn insert_by_score(result: MatchResult, c: Candidate) -> MatchResult
-    requires { ⌜ result .count < 8 ⌝ }
+    requires { ⌜ result .count < candidatesMost ⌝ }
     ensures { λ r. ⌜ r .count ≡ result .count + 1 ⌝ }
     ensures { λ r. ⌜ listed r ≡ insert c (listed result) ⌝ }
 {
@@ -59,7 +61,7 @@ pub fn insert_by_score(result: MatchResult, c: Candidate) -> MatchResult
 
 // Whether c is nearer than 750 to a candidate of the result.
 fn is_crowded(result: MatchResult, c: Candidate) -> bool
-    requires { ⌜ result .count ≤ 8 ⌝ }
+    requires { ⌜ result .count ≤ candidatesMost ⌝ }
     ensures { λ r. ⌜ r ≡ crowded (listed result) c ⌝ }
 {
     let n = result.count;
@@ -77,7 +79,7 @@ fn is_crowded(result: MatchResult, c: Candidate) -> bool
 
 // The result with c behind its last.
 pub fn push(result: MatchResult, c: Candidate) -> MatchResult
-    requires { ⌜ result .count < 8 ⌝ ∗ ⌜ result ≡ resultOf (listed result) ⌝ }
+    requires { ⌜ result .count < candidatesMost ⌝ ∗ ⌜ result ≡ resultOf (listed result) ⌝ }
     ensures { λ r. ⌜ r ≡ resultOf (listed result ++ (c ∷ [])) ⌝ }
 {
     let n = result.count;
@@ -91,7 +93,7 @@ pub fn push(result: MatchResult, c: Candidate) -> MatchResult
 
 // The candidates in order, without those that are nearer than 750 to one listed before.
 pub fn keep_independent(sorted: MatchResult) -> MatchResult
-    requires { ⌜ sorted .count ≤ 8 ⌝ }
+    requires { ⌜ sorted .count ≤ candidatesMost ⌝ }
     ensures { λ r. ⌜ r ≡ resultOf (independent (listed sorted)) ⌝ }
 {
     let n = sorted.count;
@@ -110,7 +112,7 @@ pub fn keep_independent(sorted: MatchResult) -> MatchResult
 
 // The best score less the second; a lone candidate's is its own score, none gives 0.
 pub fn margin(result: MatchResult) -> f64
-    requires { ⌜ result .count ≤ 8 ⌝ }
+    requires { ⌜ result .count ≤ candidatesMost ⌝ }
     ensures { λ r. ⌜ r ≡ marginOf (listed result) ⌝ }
 {
     let n = result.count;

@@ -4,6 +4,8 @@ ghost use lib.ListN.{getD, length, take};
 ghost use mathlib.Core.Bool.{cond};
 ghost use mathlib.Core.Path.{_≡_};
 ghost use Rattle.matcher_spec.specs.Peaks.{apart, bestFree, better, firstMaximum, nearTo, peaks};
+ghost use Rattle.matcher_spec.specs.Limits.{candidatesMost};
+use matcher_spec::limits::CANDIDATES_MOST;
 
 // The first of the largest scores.
 pub fn first_maximum(scores: &[f64]) -> usize
@@ -83,19 +85,19 @@ fn best_free(scores: &[f64], separation: usize, taken: &[usize]) -> usize
 
 // Places in the order in which they were picked.
 pub struct Picked {
-    pub at: [usize; 8],
+    pub at: [usize; CANDIDATES_MOST],
     pub count: usize,
 }
 
 // At most 8 places, each the best that is free.
 pub fn pick_peaks(scores: &[f64], separation: usize) -> Picked
-    ensures { λ r. ⌜ r .count ≤ 8 ⌝ }
+    ensures { λ r. ⌜ r .count ≤ candidatesMost ⌝ }
     ensures { λ r. ⌜ take (r .count) (r .at) ≡ peaks (now (scores .entry)) separation ⌝ }
     ensures { λ r. ⌜ ((k : ℕ) → getD (r .at) k 0 ≤ length (now (scores .entry))) ⌝ }
 {
-    let mut at = [0usize; 8];
+    let mut at = [0usize; CANDIDATES_MOST];
     let mut n = 0usize;
-    while n < 8 {
+    while n < CANDIDATES_MOST {
         let best = best_free(scores, separation, &at[..n]);
         if best == scores.len() {
             return Picked { at, count: n };

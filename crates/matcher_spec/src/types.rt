@@ -1,4 +1,6 @@
 // What a search takes and gives.
+use crate::limits::CANDIDATES_MOST;
+
 // What a search knows of its reference besides the buffers.
 pub struct Reference {
     pub bands: usize,
@@ -18,6 +20,6 @@ pub struct Candidate {
 
 // The first `count` candidates, the best first.
 pub struct MatchResult {
-    pub candidates: [Candidate; 8],
+    pub candidates: [Candidate; CANDIDATES_MOST],
     pub count: usize,
 }

@@ -5,7 +5,7 @@ use Rattle.engine_snapshot.proofs.candidates.comparable_frames.Statemen
 use Rattle.engine_snapshot.proofs.candidates.comparable_frames.Tie as tie
 
 returns : tie.Need-returns
-returns c = rw (c .less2 .ensures, c .before .less .ensures, c .before .before .count .ensures, c .before .before .before .context-frames .ensures) (twice-less _ _)
+returns c = rw (c .saturating-sub2 .ensures, c .before .saturating-sub .ensures, c .before .before .count .ensures, c .before .before .before .context-frames .ensures) (twice-less _ _)
 
 pub comparable-frames-spec : {M : Type 1} → statement M
 comparable-frames-spec =

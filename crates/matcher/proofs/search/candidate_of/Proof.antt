@@ -7,7 +7,7 @@ use Rattle.matcher.proofs.search.candidate_of.Tie as tie
 
 score-part-requires-3 : tie.Need-score-part-requires-3
 score-part-requires-3 c κs =
-    let less = c .before .before .before .before .before .before .less .ensures in
+    let less = c .before .before .before .before .before .before .saturating-sub .ensures in
     let p = c .before .before .before .before .before .before .before .before .before .before .before .before .before .before .pre in
     (omega arith, (omega arith, (omega arith, (omega arith, (omega arith, (omega arith, omega arith))))))
 
@@ -19,7 +19,7 @@ returns c =
     simp (
       ← (shape .before .before .before .before .first-maximum .ensures .0),
       ← (shape .before .before .before .count .ensures),
-      ← (shape .before .before .less .ensures),
+      ← (shape .before .before .saturating-sub .ensures),
       ← (shape .before .real .ensures),
       ← (shape .fraction-at .ensures),
       ← (parts .score-part .ensures),

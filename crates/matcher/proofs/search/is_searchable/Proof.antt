@@ -16,7 +16,7 @@ returns : tie.Need-returns
 unfolding searchable
 returns c =
     simp
-    (← (c .before .before .before .before .radius .ensures), ← (c .before .before .before .accepts-timeline .ensures), ← (c .before .before .are-valid .ensures), ← (c .before .less .ensures))
+    (← (c .before .before .before .before .radius .ensures), ← (c .before .before .before .accepts-timeline .ensures), ← (c .before .before .are-valid .ensures), ← (c .before .saturating-sub .ensures))
 
 pub is-searchable-spec : {M : Type 1} → statement M
 is-searchable-spec =

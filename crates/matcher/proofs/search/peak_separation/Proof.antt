@@ -7,7 +7,7 @@ use Rattle.matcher.proofs.search.peak_separation.Tie as tie
 
 returns : tie.Need-returns
 unfolding separation ofBits ofInt
-returns c = simp (← (c .before .count .ensures), ← (c .largest .ensures))
+returns c = simp (← (c .before .count .ensures), ← (c .max .ensures))
 
 pub peak-separation-spec : {M : Type 1} → statement M
 peak-separation-spec = tie.close (tie.spec (λ c κs. search needs) (λ c κs. search needs) returns)

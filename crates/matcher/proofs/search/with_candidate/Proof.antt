@@ -22,7 +22,7 @@ returns c =
       (
         c .insert-by-score .ensures .1
             ∙ ap (λ (d : Candidate). insert d (listed (a .found))) (best .best-candidate .ensures .0)
-            ∙ one-found (a .reference) fine query (a .start) (listed (a .found)) (a .peak) (at .before .before .before .less .ensures) (at .before .least .ensures) (at .if1 .taken),
+            ∙ one-found (a .reference) fine query (a .start) (listed (a .found)) (a .peak) (at .before .before .before .saturating-sub .ensures) (at .before .min .ensures) (at .if1 .taken),
         best .best-candidate .ensures .1,
       ),
     )
@@ -32,7 +32,7 @@ returns-2 c =
     let a = c .before .before .before .before .before .before .before .before .args in
     let fine = bandsOf (a .reference .frames) (a .fine .now) (a .energy .now) in
     let query = bandsOf (a .n) (a .query .now) (take (a .reference .bands * (a .n + 1)) (a .work .now)) in
-    (omega arith, (none-found (a .reference) fine query (a .start) (listed (a .found)) (a .peak) (c .before .before .before .less .ensures) (c .before .least .ensures) (c .if1 .left), refl))
+    (omega arith, (none-found (a .reference) fine query (a .start) (listed (a .found)) (a .peak) (c .before .before .before .saturating-sub .ensures) (c .before .min .ensures) (c .if1 .left), refl))
 
 pub with-candidate-spec : {M : Type 1} → statement M
 with-candidate-spec =
