@@ -3,6 +3,7 @@ ghost use mathlib.Core.Path.{_≡_};
 ghost use Rattle.engine_spec.specs.Opening.{openedIndex, opening};
 ghost use Rattle.engine_spec.specs.Lent.{lent};
 ghost use Rattle.engine_spec.specs.Guaranteed.{Guaranteed};
+ghost use Rattle.matcher_spec.specs.Features.{features};
 use engine_answers::fresh::fresh_engine;
 use engine_answers::fresh::no_engine;
 use engine_answers::fresh::with_index;

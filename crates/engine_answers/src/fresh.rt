@@ -4,6 +4,7 @@ ghost use lib.ListN.{length};
 ghost use mathlib.Core.List.{[]};
 ghost use mathlib.Core.Path.{_≡_};
 ghost use Rattle.engine_spec.specs.Opening.{blankSnapshot, freshEngine, noEngine, noMilestones, withIndex, withoutIndex};
+ghost use Rattle.matcher_spec.specs.Features.{features};
 use engine_decision::windows::no_lock;
 use engine_snapshot::candidates::blank_candidate;
 use engine_spec::types::Configuration;

@@ -11,6 +11,7 @@ use lib.Ieee.{Float}
 use Rattle.matcher_spec.specs.Index.{Matcher}
 use Rattle.matcher_spec.specs.declared.types.Reference.{Reference}
 use Rattle.matcher_spec.specs.Search as search
+use Rattle.matcher_spec.specs.Features.{Features}
 use Rattle.matcher_spec.specs.Search.{FilledQuery, localSearch, wholeSearch}
 use Rattle.matcher_spec.specs.Candidates.{resultOf, listed}
 use Rattle.matcher_spec.specs.declared.types.Candidate.{Candidate}
@@ -87,7 +88,7 @@ pub room-kept : {s : Settings} {x : Index} {w : Window} {room32 room64 now32 now
 room-kept {s} {x} {w} {room32} {now64 = now64} e f r = subst (λ (k : ℕ). Room s x w k now64) (sym e) (subst (λ (k : ℕ). Room s x w room32 k) (sym f) r)
 
 -- the query of a reference that is said in other words
-pub filled-of : {x y : Reference} {w : search.Features} {filled : Bool} {work32 work64 : List Float} → x ≡ y → FilledQuery x w filled work32 work64 → FilledQuery y w filled work32 work64
+pub filled-of : {x y : Reference} {w : Features} {filled : Bool} {work32 work64 : List Float} → x ≡ y → FilledQuery x w filled work32 work64 → FilledQuery y w filled work32 work64
 filled-of {w = w} {filled} {work32} {work64} e f = subst (λ (z : Reference). FilledQuery z w filled work32 work64) e f
 
 module _ (offset : Float) (first last : RecordedMs) (correlation : Float) (now : RecordedMs) (m : Matcher) (hop : Float) (w : Window) (e : evidence hop w ≡ now) where

@@ -4,6 +4,7 @@ ghost use lib.ListN.{length};
 ghost use mathlib.Core.Path.{_≡_};
 ghost use Rattle.engine_spec.specs.Refusals.{handedRefusal, indexFits, openingRefusal, submissionRefusal, validWindow, workFits};
 ghost use Rattle.engine_spec.specs.Lent.{handed, lent, window};
+ghost use Rattle.matcher_spec.specs.Features.{features};
 use crate::ranges::are_near;
 use crate::ranges::are_near_or_not_finite;
 use crate::ranges::are_valid_energies;

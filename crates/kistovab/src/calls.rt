@@ -11,6 +11,7 @@ ghost use Rattle.engine_spec.specs.Submitting.{submit};
 ghost use Rattle.engine_spec.specs.SupportAge.{supportAge};
 ghost use Rattle.kistovab.specs.Calls.{Opens, Submits, ageAfter, ageCode, configured, indexAfter, openCode, submitCode};
 ghost use Rattle.kistovab.specs.Codes.{answers};
+ghost use Rattle.matcher_spec.specs.Features.{features};
 use crate::codes::COMPUTED;
 use crate::codes::NO_AGE;
 use crate::codes::WORDS_TOO_SHORT;
