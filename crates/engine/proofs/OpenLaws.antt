@@ -14,7 +14,6 @@ use Rattle.matcher_spec.specs.Centring.{wideHop}
 use Rattle.matcher_spec.specs.Timeline.{regular, onTime, validValues}
 use Rattle.matcher_spec.specs.Energy.{reduction}
 use Rattle.matcher_spec.specs.Index.{acceptsReference, filled}
-use Rattle.matcher_spec.specs.Limits.{hopLeast, hopMost, framesMost, bandsMost}
 use Rattle.engine_spec.specs.Windows.{Index}
 use Rattle.matcher_spec.specs.Features.{Features}
 use Rattle.engine_spec.specs.Refusals.{numberOf, refuses, nearOrNotFinite, validConfiguration, hopInRange, countsInRange, indexFits, openingRefusal}
@@ -27,11 +26,12 @@ use Rattle.engine_spec.specs.declared.types.Answer.{Answer}
 use Rattle.engine_spec.specs.declared.types.Answer.the-variants as answer
 use Rattle.engine_spec.proofs.Tests.{and-l, and-r, T-is}
 use Rattle.engine_spec.proofs.Handed.{passed}
+use Rattle.matcher_spec.specs.Limits.{hopLeast, hopMost, framesMost, bandsMost}
 
 pub record OpenRoom (hop : Float) (reference : Features) (x : Index) : Type 0 where
   pub wide : wideHop hop ≡ true
-  pub frames : length (reference .times) ≤ 65535
-  pub bands : reference .bands ≤ 64
+  pub frames : length (reference .times) ≤ framesMost
+  pub bands : reference .bands ≤ bandsMost
   pub values : length (reference .values) ≡ reference .bands * length (reference .times)
   pub fine : reference .bands * length (reference .times) ≤ length (x .fine)
   pub coarse : reference .bands * (length (reference .times) / 4) ≤ length (x .coarse)

@@ -9,7 +9,6 @@ use lib.Ieee.{le}
 use lib.Ieee.Scale.{finite}
 use Rattle.matcher_spec.specs.Timeline.{validValues}
 use Rattle.matcher_spec.specs.Energy.{reduction}
-use Rattle.matcher_spec.specs.Limits.{hopLeast, hopMost, framesMost, windowMost, bandsMost}
 use Rattle.engine_spec.specs.Refusals.{Submission, numberOf, refuses, near, validEnergy, validConfiguration, hopInRange, countsInRange, bothOrNeither, indexFits, validSettings, validLock, validMilestones, validLast, validEngine, validWindow, workFits, handedRefusal, submissionRefusal}
 use Rattle.numbers_spec.specs.Rows.{every}
 use Rattle.engine_spec.specs.declared.types.Settings.{Settings}
@@ -18,6 +17,7 @@ use Rattle.engine_spec.specs.declared.types.Answer.the-variants as answer
 use Rattle.engine_spec.proofs.Tests.{and-l, and-r, T-is}
 use Rattle.engine_spec.proofs.Handed.{passed}
 use Rattle.engine_spec.specs.Room.{Room}
+use Rattle.matcher_spec.specs.Limits.{hopLeast, hopMost, framesMost, windowMost, bandsMost}
 
 times-2 : (b n r : ℕ) → 2 * b * n ≤ r → 2 * (b * n) ≤ r
 times-2 b n r h = rw (← (mul-assoc 2 b n)) h

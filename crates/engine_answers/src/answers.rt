@@ -7,6 +7,7 @@ ghost use Rattle.engine_spec.specs.Submitting.{computedFrom, moved, refused, re
 ghost use Rattle.engine_spec.specs.Lent.{handed, lent, window};
 ghost use Rattle.engine_lock.specs.Views.{endingAt};
 ghost use Rattle.engine_decision.specs.Decided.{decisionIn};
+ghost use Rattle.matcher_spec.specs.Limits.{candidatesMost};
 use crate::fresh::blank_snapshot;
 use crate::milestones::stamp;
 use engine_decision::kinds::Decision;
@@ -79,7 +80,7 @@ pub fn computed_from(
     clock: ClockMs,
     d: Decision,
 ) -> SubmitResult
-    requires { ⌜ d .found .count ≤ 8 ⌝ ∗ ⌜ 0 < length (now times) ⌝ ∗ ⌜ length (now times) ≤ length (now energies) ⌝ }
+    requires { ⌜ d .found .count ≤ candidatesMost ⌝ ∗ ⌜ 0 < length (now times) ⌝ ∗ ⌜ length (now times) ≤ length (now energies) ⌝ }
     ensures { λ r. ⌜ r ≡ computedFrom engine (handed (lent [] [] [] []) (window bands (now (times .entry)) (now (energies .entry)) (now (values .entry))) clock 0 0) (decisionIn d) ⌝ }
 {
     let n = times.len();

@@ -5,6 +5,7 @@ ghost use mathlib.Core.List.{[]};
 ghost use mathlib.Core.Path.{_≡_};
 ghost use Rattle.engine_spec.specs.Opening.{blankSnapshot, freshEngine, noEngine, noMilestones, withIndex, withoutIndex};
 ghost use Rattle.matcher_spec.specs.Features.{features};
+ghost use Rattle.matcher_spec.specs.Limits.{framesMost, bandsMost};
 use engine_decision::windows::no_lock;
 use engine_snapshot::candidates::blank_candidate;
 use engine_spec::types::Configuration;
@@ -24,6 +25,7 @@ use engine_spec::types::SpectralDiagnostics;
 use engine_spec::types::Stage;
 use engine_spec::types::State;
 use engine_spec::types::WithholdReason;
+use matcher_spec::limits::CANDIDATES_MOST;
 
 // No endpoint, snapshot, place or milestone.
 pub fn fresh_engine(settings: Settings) -> Engine
@@ -61,7 +63,7 @@ pub fn no_engine() -> Engine
 
 // The reference's counts and start.
 pub fn with_index(configuration: Configuration, hop: f64, bands: usize, times: &[f64]) -> Settings
-    requires { ⌜ 0 < length (now times) ⌝ ∗ ⌜ length (now times) ≤ 65535 ⌝ ∗ ⌜ bands ≤ 64 ⌝ }
+    requires { ⌜ 0 < length (now times) ⌝ ∗ ⌜ length (now times) ≤ framesMost ⌝ ∗ ⌜ bands ≤ bandsMost ⌝ }
     ensures { λ r. ⌜ r ≡ withIndex configuration hop (features bands (now (times .entry)) []) ⌝ }
 {
     Settings {
@@ -109,7 +111,7 @@ fn blank_diagnostics() -> Diagnostics
     ensures { λ r. ⌜ r ≡ blankSnapshot .diagnostics ⌝ }
 {
     let spectral = blank_spectral();
-    let candidates = [blank_candidate(); 8];
+    let candidates = [blank_candidate(); CANDIDATES_MOST];
     Diagnostics {
         query_duration_ms: 0.0,
         active_frame_fraction: 0.0,

@@ -8,6 +8,7 @@ ghost use Rattle.engine_spec.specs.Lent.{lent, window};
 ghost use Rattle.engine_spec.specs.Room.{Room};
 ghost use Rattle.engine_lock.specs.Views.{reachedIn};
 ghost use Rattle.engine_decision.specs.Decided.{decisionIn};
+ghost use Rattle.matcher_spec.specs.Limits.{candidatesMost};
 use crate::kinds::Decision;
 use crate::verdict::ready;
 use crate::verdict::unready;
@@ -37,7 +38,7 @@ pub fn decide(
 ) -> Decision
     requires { ⌜ Room settings (lent (now fine) (now coarse) (now «fine_energy») (now «coarse_energy»)) (window bands (now times) (now energies) (now values)) (length (now work32)) (length (now work64)) ⌝ }
     ensures { λ r. ⌜ decisionIn r ≡ decide settings (matcherIn settings (lent (now (fine .entry)) (now (coarse .entry)) (now («fine_energy» .entry)) (now («coarse_energy» .entry)))) (window bands (now (times .entry)) (now (energies .entry)) (now (values .entry))) (reachedIn reached) lock ⌝ }
-    ensures { λ r. ⌜ r .found .count ≤ 8 ⌝ }
+    ensures { λ r. ⌜ r .found .count ≤ candidatesMost ⌝ }
 {
     let n = times.len();
     let endpoint = RecordedMs(times[n - 1]);

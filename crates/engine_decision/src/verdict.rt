@@ -10,6 +10,7 @@ ghost use Rattle.engine_spec.specs.declared.types.State.the-variants as state;
 ghost use Rattle.engine_spec.specs.declared.types.WithholdReason.the-variants as reason;
 ghost use Rattle.engine_lock.specs.Views.{endingAt, reachedIn, searchedIn};
 ghost use Rattle.engine_decision.specs.Decided.{decisionIn, verdictIn};
+ghost use Rattle.matcher_spec.specs.Limits.{candidatesMost};
 use crate::kinds::Decision;
 use crate::kinds::Verdict;
 use engine_lock::kinds::Reached;
@@ -31,7 +32,7 @@ use numbers::float::at_least;
 
 // What a window decides that was searched.
 pub fn ready(hop: f64, endpoint: RecordedMs, s: Searched) -> Decision
-    requires { ⌜ s .found .count ≤ 8 ⌝ }
+    requires { ⌜ s .found .count ≤ candidatesMost ⌝ }
     ensures { λ r. ⌜ decisionIn r ≡ ready hop (endingAt endpoint) (searchedIn s) ⌝ }
     ensures { λ r. ⌜ r .found ≡ s .found ⌝ }
 {
@@ -54,7 +55,7 @@ pub fn ready(hop: f64, endpoint: RecordedMs, s: Searched) -> Decision
 // old place.
 pub fn unready(settings: Settings, reached: Reached, lock: Lock, reason: WithholdReason) -> Decision
     ensures { λ r. ⌜ decisionIn r ≡ unready settings (reachedIn reached) lock reason ⌝ }
-    ensures { λ r. ⌜ r .found .count ≤ 8 ⌝ }
+    ensures { λ r. ⌜ r .found .count ≤ candidatesMost ⌝ }
 {
     let last_global_search_ms = lock.last_global_search_ms;
     let dropped = Lock {
@@ -82,7 +83,7 @@ pub fn unready(settings: Settings, reached: Reached, lock: Lock, reason: Withhol
 
 // A track is shown as long as it may coast.
 pub fn verdict_of(accepted: Hypothesis, now: RecordedMs, s: Searched) -> Verdict
-    requires { ⌜ s .found .count ≤ 8 ⌝ }
+    requires { ⌜ s .found .count ≤ candidatesMost ⌝ }
     ensures { λ r. ⌜ verdictIn r ≡ verdictOf accepted now (searchedIn s) ⌝ }
 {
     match accepted {
@@ -122,7 +123,7 @@ fn on_track(s: Searched, offset: f64, since: f64) -> Verdict
 
 // On no track: Locking with the pending place, or Relocking with none.
 fn off_track(s: Searched) -> Verdict
-    requires { ⌜ s .found .count ≤ 8 ⌝ }
+    requires { ⌜ s .found .count ≤ candidatesMost ⌝ }
     ensures { λ r. ⌜ verdictIn r ≡ offTrack (searchedIn s) ⌝ }
 {
     let reached = s.reached;
@@ -143,7 +144,7 @@ fn off_track(s: Searched) -> Verdict
 
 // Something was found, but its margin is below 0.06.
 pub fn is_ambiguous(found: MatchResult) -> bool
-    requires { ⌜ found .count ≤ 8 ⌝ }
+    requires { ⌜ found .count ≤ candidatesMost ⌝ }
     ensures { λ r. ⌜ r ≡ ambiguous (listed found) ⌝ }
 {
     if found.count == 0 {
@@ -177,7 +178,7 @@ fn off_track_state(confirmed: bool) -> State
 }
 
 fn off_track_reason(found: MatchResult) -> WithholdReason
-    requires { ⌜ found .count ≤ 8 ⌝ }
+    requires { ⌜ found .count ≤ candidatesMost ⌝ }
     ensures { λ r. ⌜ r ≡ cond (ambiguous (listed found)) reason.AmbiguousOffset reason.WeakAlignmentPeak ⌝ }
 {
     if is_ambiguous(found) {

@@ -78,7 +78,7 @@ boolOf n = eqb n 1
 
 -- A u16's count.
 abbrev pub countOf : ℕ → ℕ
-countOf n = n % 65536
+countOf n = n % 2 ^ 16
 
 -- The k words from a on.
 abbrev pub part : ℕ → ℕ → List ℕ → List ℕ

@@ -8,6 +8,7 @@ use crate::rows::put;
 use crate::values::float_word;
 use crate::values::word_float;
 use engine_spec::types::CandidateDiagnostics;
+use matcher_spec::limits::CANDIDATES_MOST;
 
 pub fn candidate_words(c: CandidateDiagnostics) -> [u64; 5]
     ensures { λ r. ⌜ r ≡ candidateWords c ⌝ }
@@ -35,7 +36,11 @@ pub fn candidate_of(words: &[u64]) -> CandidateDiagnostics
     }
 }
 
-pub fn put_candidates(words: &mut [u64], at: usize, candidates: [CandidateDiagnostics; 8])
+pub fn put_candidates(
+    words: &mut [u64],
+    at: usize,
+    candidates: [CandidateDiagnostics; CANDIDATES_MOST],
+)
     requires { ⌜ at + 40 ≤ length (now words) ⌝ }
     ensures { λ _. ⌜ now (words .exit) ≡ placed at (candidatesTo 8 candidates) (now (words .entry)) ⌝ }
     ensures back { λ _. ⌜ candidatesOf (candidatesTo 8 candidates) ≡ candidates ⌝ }
@@ -49,7 +54,7 @@ pub fn put_candidates(words: &mut [u64], at: usize, candidates: [CandidateDiagno
     }
 }
 
-pub fn candidates_of(words: &[u64]) -> [CandidateDiagnostics; 8]
+pub fn candidates_of(words: &[u64]) -> [CandidateDiagnostics; CANDIDATES_MOST]
     requires { ⌜ length (now words) ≡ 40 ⌝ }
     ensures { λ r. ⌜ r ≡ candidatesOf (now (words .entry)) ⌝ }
 {

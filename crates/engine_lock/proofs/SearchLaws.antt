@@ -32,12 +32,13 @@ use Rattle.engine_spec.specs.Locking.{Reached, passed, wholeDue, wholeSearched,
 use Rattle.engine_spec.specs.declared.types.Hypothesis.{Hypothesis}
 use Rattle.engine_spec.specs.declared.types.Lock.{Lock}
 use Rattle.engine_lock.specs.Views.{endingAt}
+use Rattle.matcher_spec.specs.Limits.{candidatesMost}
 
 pub evidence-ending : (hop : Float) (w : Window) → evidence hop (endingAt (endpointOf w)) ≡ evidence hop w
 unfolding evidence
 evidence-ending hop w = refl
 
-pub found-few : (l : List Candidate) {r : MatchResult} → r ≡ resultOf l → length l ≤ 8 → r .count ≤ 8
+pub found-few : (l : List Candidate) {r : MatchResult} → r ≡ resultOf l → length l ≤ 8 → r .count ≤ candidatesMost
 found-few l e h = rw e h
 
 -- where there are frames there are bands

@@ -7,6 +7,7 @@ ghost use Rattle.matcher_spec.specs.Candidates.{listed};
 ghost use Rattle.engine_spec.specs.Locking.{afterChain, afterPassing, confirms, current, firstEvidence, heldOrDropped, holds, keptOrReplaced, locallySearched, notPassed, passed, passing, wholeDue, wholeSearched};
 ghost use Rattle.numbers_spec.specs.Arithmetic.{least};
 ghost use Rattle.engine_lock.specs.Views.{endingAt, reachedIn, searchedIn, trackedIn};
+ghost use Rattle.matcher_spec.specs.Limits.{candidatesMost};
 use crate::kinds::Reached;
 use crate::kinds::Searched;
 use crate::kinds::Tracked;
@@ -51,7 +52,7 @@ fn least(x: f64, y: f64) -> f64
 // Whether a whole search passes, by its best candidate and its margin. Both halves have to reach
 // 0.10, tested by the lesser of them, as the Rust does.
 pub fn is_passing(found: MatchResult) -> bool
-    requires { ⌜ found .count ≤ 8 ⌝ }
+    requires { ⌜ found .count ≤ candidatesMost ⌝ }
     ensures { λ r. ⌜ r ≡ passing (listed found) ⌝ }
 {
     if found.count == 0 {
@@ -95,7 +96,7 @@ fn first_evidence(pending: Hypothesis, offset: f64, now: RecordedMs) -> Recorded
 // A search that does not pass holds pending where its best is at the same place, unambiguous, and
 // pending current.
 fn holds(offset: f64, last: RecordedMs, found: MatchResult, now: RecordedMs) -> bool
-    requires { ⌜ found .count ≤ 8 ⌝ }
+    requires { ⌜ found .count ≤ candidatesMost ⌝ }
     ensures { λ r. ⌜ r ≡ holds offset last (listed found) now ⌝ }
 {
     if found.count == 0 {
@@ -108,7 +109,7 @@ fn holds(offset: f64, last: RecordedMs, found: MatchResult, now: RecordedMs) -> 
 
 // Pending after a search that does not pass.
 fn held_or_dropped(pending: Hypothesis, found: MatchResult, now: RecordedMs) -> Hypothesis
-    requires { ⌜ found .count ≤ 8 ⌝ }
+    requires { ⌜ found .count ≤ candidatesMost ⌝ }
     ensures { λ r. ⌜ r ≡ heldOrDropped pending (listed found) now ⌝ }
 {
     match pending {
@@ -256,7 +257,7 @@ fn not_passed(
     t: Tracked,
     found: MatchResult,
 ) -> Searched
-    requires { ⌜ found .count ≤ 8 ⌝ }
+    requires { ⌜ found .count ≤ candidatesMost ⌝ }
     ensures { λ r. ⌜ searchedIn r ≡ notPassed hop (endingAt endpoint) (reachedIn reached) pending (trackedIn t) (listed found) ⌝ }
     ensures { λ r. ⌜ r .found ≡ found ⌝ }
 {
@@ -288,7 +289,7 @@ pub fn whole_searched(
     t: Tracked,
     found: MatchResult,
 ) -> Searched
-    requires { ⌜ found .count ≤ 8 ⌝ }
+    requires { ⌜ found .count ≤ candidatesMost ⌝ }
     ensures { λ r. ⌜ searchedIn r ≡ wholeSearched hop (endingAt endpoint) (reachedIn reached) pending (trackedIn t) (listed found) ⌝ }
     ensures { λ r. ⌜ r .found ≡ found ⌝ }
 {

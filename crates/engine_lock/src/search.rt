@@ -16,6 +16,7 @@ ghost use Rattle.engine_spec.specs.Locking.{locallySearched, searched, wholeSea
 ghost use Rattle.engine_spec.specs.Lent.{lent, window};
 ghost use Rattle.engine_spec.specs.Room.{Room};
 ghost use Rattle.engine_lock.specs.Views.{reachedIn, searchedIn, trackedIn};
+ghost use Rattle.matcher_spec.specs.Limits.{candidatesMost};
 use crate::kinds::Reached;
 use crate::kinds::Searched;
 use crate::kinds::Tracked;
@@ -56,7 +57,7 @@ pub fn searched(
 ) -> Searched
     requires { ⌜ Room settings (lent (now fine) (now coarse) (now «fine_energy») (now «coarse_energy»)) (window bands (now times) (now energies) (now values)) (length (now work32)) (length (now work64)) ⌝ ∗ ⌜ 0 < settings .«reference_frames» ⌝ }
     ensures { λ r. ⌜ searchedIn r ≡ searched (matcherIn settings (lent (now (fine .entry)) (now (coarse .entry)) (now («fine_energy» .entry)) (now («coarse_energy» .entry)))) (settings .«hop_ms») (window bands (now (times .entry)) (now (energies .entry)) (now (values .entry))) (reachedIn reached) lock ⌝ }
-    ensures { λ r. ⌜ r .found .count ≤ 8 ⌝ }
+    ensures { λ r. ⌜ r .found .count ≤ candidatesMost ⌝ }
 {
     let n = times.len();
     let accepted = lock.accepted;
@@ -131,7 +132,7 @@ fn with_track(
 ) -> Searched
     requires { ⌜ Room settings (lent (now fine) (now coarse) (now «fine_energy») (now «coarse_energy»)) (window bands (now times) (now energies) (now values)) (length (now work32)) (length (now work64)) ⌝ ∗ ⌜ 0 < settings .«reference_frames» ⌝ }
     ensures { λ r. ⌜ searchedIn r ≡ searched (matcherIn settings (lent (now (fine .entry)) (now (coarse .entry)) (now («fine_energy» .entry)) (now («coarse_energy» .entry)))) (settings .«hop_ms») (window bands (now (times .entry)) (now (energies .entry)) (now (values .entry))) (reachedIn reached) lock ⌝ }
-    ensures { λ r. ⌜ r .found .count ≤ 8 ⌝ }
+    ensures { λ r. ⌜ r .found .count ≤ candidatesMost ⌝ }
 {
     let n = times.len();
     let endpoint = RecordedMs(times[n - 1]);
@@ -193,7 +194,7 @@ fn without_track(
     requires { ⌜ Room settings (lent (now fine) (now coarse) (now «fine_energy») (now «coarse_energy»)) (window bands (now times) (now energies) (now values)) (length (now work32)) (length (now work64)) ⌝ ∗ ⌜ 0 < settings .«reference_frames» ⌝ }
     requires { ⌜ unsupported hypothesis.Absent [] ≡ tracked (matcherIn settings (lent (now fine) (now coarse) (now «fine_energy») (now «coarse_energy»))) (settings .«hop_ms») (window bands (now times) (now energies) (now values)) (lock .accepted) ⌝ }
     ensures { λ r. ⌜ searchedIn r ≡ searched (matcherIn settings (lent (now (fine .entry)) (now (coarse .entry)) (now («fine_energy» .entry)) (now («coarse_energy» .entry)))) (settings .«hop_ms») (window bands (now (times .entry)) (now (energies .entry)) (now (values .entry))) (reachedIn reached) lock ⌝ }
-    ensures { λ r. ⌜ r .found .count ≤ 8 ⌝ }
+    ensures { λ r. ⌜ r .found .count ≤ candidatesMost ⌝ }
 {
     let n = times.len();
     let endpoint = RecordedMs(times[n - 1]);
@@ -262,7 +263,7 @@ fn tracked(
     requires { ⌜ Room settings (lent (now fine) (now coarse) (now «fine_energy») (now «coarse_energy»)) (window bands (now times) (now energies) (now values)) (length (now work32)) (length (now work64)) ⌝ ∗ ⌜ 0 < settings .«reference_frames» ⌝ }
     requires { ⌜ FilledQuery (referenceOf settings) (query (window bands (now times) (now energies) (now values))) filled (now work32) (now work64) ⌝ }
     ensures { λ r. ⌜ trackedIn r ≡ tracked (matcherIn settings (lent (now (fine .entry)) (now (coarse .entry)) (now («fine_energy» .entry)) (now («coarse_energy» .entry)))) (settings .«hop_ms») (window bands (now (times .entry)) (now (energies .entry)) (now (values .entry))) accepted ⌝ }
-    ensures { λ r. ⌜ r .found .count ≤ 8 ⌝ }
+    ensures { λ r. ⌜ r .found .count ≤ candidatesMost ⌝ }
     ensures { λ _. ⌜ FilledQuery (referenceOf settings) (query (window bands (now (times .entry)) (now (energies .entry)) (now (values .entry)))) filled (now (work32 .entry)) (now (work64 .exit)) ⌝ }
 {
     let n = times.len();
@@ -322,10 +323,10 @@ fn then_whole(
     work32: &mut [f32],
     work64: &mut [f64],
 ) -> Searched
-    requires { ⌜ Room settings (lent (now fine) (now coarse) (now «fine_energy») (now «coarse_energy»)) (window bands (now times) (now energies) (now values)) (length (now work32)) (length (now work64)) ⌝ ∗ ⌜ 0 < settings .«reference_frames» ⌝ ∗ ⌜ t .found .count ≤ 8 ⌝ }
+    requires { ⌜ Room settings (lent (now fine) (now coarse) (now «fine_energy») (now «coarse_energy»)) (window bands (now times) (now energies) (now values)) (length (now work32)) (length (now work64)) ⌝ ∗ ⌜ 0 < settings .«reference_frames» ⌝ ∗ ⌜ t .found .count ≤ candidatesMost ⌝ }
     requires { ⌜ (due ≡ true → FilledQuery (referenceOf settings) (query (window bands (now times) (now energies) (now values))) filled (now work32) (now work64)) ⌝ }
     ensures { λ r. ⌜ searchedIn r ≡ cond due (wholeSearched (settings .«hop_ms») (window bands (now (times .entry)) (now (energies .entry)) (now (values .entry))) (reachedIn reached) (lock .pending) (trackedIn t) (wholeSearch (matcherIn settings (lent (now (fine .entry)) (now (coarse .entry)) (now («fine_energy» .entry)) (now («coarse_energy» .entry)))) (query (window bands (now (times .entry)) (now (energies .entry)) (now (values .entry)))))) (locallySearched (reachedIn reached) lock (trackedIn t)) ⌝ }
-    ensures { λ r. ⌜ r .found .count ≤ 8 ⌝ }
+    ensures { λ r. ⌜ r .found .count ≤ candidatesMost ⌝ }
 {
     if !due {
         return locally_searched(reached, lock, t);

@@ -7,6 +7,7 @@ ghost use Rattle.matcher_spec.specs.Candidates.{listed};
 ghost use Rattle.engine_spec.specs.Windows.{evidence};
 ghost use Rattle.engine_spec.specs.Tracking.{followed, gain, mayCoast, movedOffset, samePlace, supports, unsupported};
 ghost use Rattle.engine_lock.specs.Views.{endingAt, trackedIn};
+ghost use Rattle.matcher_spec.specs.Limits.{candidatesMost};
 use crate::kinds::Tracked;
 use engine_spec::thresholds::COAST_MOST_MS;
 use engine_spec::thresholds::GAIN_MS;
@@ -69,7 +70,7 @@ fn moved_offset(offset: f64, best: Candidate, dt: f64) -> f64
 
 // The best candidate of a result that has one.
 pub fn best_of(found: MatchResult) -> Candidate
-    requires { ⌜ 0 < found .count ⌝ ∗ ⌜ found .count ≤ 8 ⌝ }
+    requires { ⌜ 0 < found .count ⌝ ∗ ⌜ found .count ≤ candidatesMost ⌝ }
     ensures { λ r. ⌜ listed found ≡ r ∷ drop 1 (listed found) ⌝ }
 {
     let candidates = found.candidates;
@@ -98,7 +99,7 @@ pub fn followed(
     now: RecordedMs,
     found: MatchResult,
 ) -> Tracked
-    requires { ⌜ found .count ≤ 8 ⌝ }
+    requires { ⌜ found .count ≤ candidatesMost ⌝ }
     ensures { λ r. ⌜ trackedIn r ≡ followed offset first last correlation now (listed found) ⌝ }
     ensures { λ r. ⌜ r .found ≡ found ⌝ }
 {

@@ -6,9 +6,9 @@ use native.Mathlib.Nat.{mul-le-mul}
 use native.Mathlib.Omega.{arith}
 use borrow.Author.Tests.{lt-ltb}
 use lib.Dec.{T, ltb, leb, leb→le}
-use Rattle.matcher_spec.specs.Limits.{framesMost, bandsMost}
 use Rattle.engine_spec.specs.Refusals.{countsInRange}
 use Rattle.engine_spec.proofs.Tests.{and-l, and-r}
+use Rattle.matcher_spec.specs.Limits.{framesMost, bandsMost}
 
 pub nothing : {n : ℕ} → n ≡ 0 → ltb 0 n ≡ false
 nothing e = rw e refl
@@ -27,8 +27,8 @@ pub is-T : {b : Bool} → b ≡ true → T b
 is-T e = subst T (sym e) tt
 
 pub record Counted (n b : ℕ) : Type 0 where
-  pub frames : n ≤ 65535
-  pub bands : b ≤ 64
+  pub frames : n ≤ framesMost
+  pub bands : b ≤ bandsMost
 
 pub counted : (n b : ℕ) → countsInRange n b ≡ true → Counted n b
 counted n b e =

@@ -5,6 +5,7 @@ ghost use mathlib.Core.Path.{_≡_};
 ghost use Rattle.engine_spec.specs.Refusals.{handedRefusal, indexFits, openingRefusal, submissionRefusal, validWindow, workFits};
 ghost use Rattle.engine_spec.specs.Lent.{handed, lent, window};
 ghost use Rattle.matcher_spec.specs.Features.{features};
+ghost use Rattle.matcher_spec.specs.Limits.{framesMost, windowMost, bandsMost};
 use crate::ranges::are_near;
 use crate::ranges::are_near_or_not_finite;
 use crate::ranges::are_valid_energies;
@@ -32,7 +33,7 @@ fn index_fits(
     fine_energy: &[f64],
     coarse_energy: &[f64],
 ) -> bool
-    requires { ⌜ frames ≤ 65535 ⌝ ∗ ⌜ bands ≤ 65535 ⌝ }
+    requires { ⌜ frames < 2 ^ 16 ⌝ ∗ ⌜ bands < 2 ^ 16 ⌝ }
     ensures { λ r. ⌜ r ≡ indexFits frames bands (lent (now (fine .entry)) (now (coarse .entry)) (now («fine_energy» .entry)) (now («coarse_energy» .entry))) ⌝ }
 {
     (bands * frames <= fine.len())
@@ -79,7 +80,7 @@ pub fn opening_refusal(
 
 // 11: bands, lengths that agree, and values that are finite and not negative.
 fn is_valid_window(bands: usize, times: &[f64], energies: &[f64], values: &[f32]) -> bool
-    requires { ⌜ bands ≤ 64 ⌝ ∗ ⌜ length (now times) ≤ 1024 ⌝ }
+    requires { ⌜ bands ≤ bandsMost ⌝ ∗ ⌜ length (now times) ≤ windowMost ⌝ }
     ensures { λ r. ⌜ r ≡ validWindow (window bands (now (times .entry)) (now (energies .entry)) (now (values .entry))) ⌝ }
 {
     let n = times.len();
@@ -94,7 +95,7 @@ fn work_fits(
     room32: usize,
     room64: usize,
 ) -> bool
-    requires { ⌜ bands ≤ 64 ⌝ ∗ ⌜ frames ≤ 1024 ⌝ ∗ ⌜ «reference_frames» ≤ 65535 ⌝ }
+    requires { ⌜ bands ≤ bandsMost ⌝ ∗ ⌜ frames ≤ windowMost ⌝ ∗ ⌜ «reference_frames» ≤ framesMost ⌝ }
     ensures { λ r. ⌜ r ≡ workFits bands frames «reference_frames» room32 room64 ⌝ }
 {
     (2 * bands * frames <= room32) & (3 * bands * (frames + 1) + reference_frames <= room64)

@@ -15,7 +15,6 @@ use lib.Ieee.{Float, nan, inf, fin, binary64, fits, eq, lt, neg, up, down}
 use lib.Ieee.Fits.{neg-fits, up-pos}
 use lib.Ieee.Back.{whole-unique}
 use Rattle.numbers_spec.specs.Arithmetic.{zero⁺, magnitude}
-use Rattle.matcher_spec.specs.Limits.{candidatesMost}
 use Rattle.matcher_spec.specs.declared.types.Candidate.{Candidate}
 use Rattle.engine_spec.specs.Windows.{Window}
 use Rattle.engine_spec.specs.Opening.{blankCandidate}
@@ -23,6 +22,7 @@ use Rattle.engine_spec.specs.Publishing.{comparableFrames, coverage, candidates
 use Rattle.engine_spec.specs.declared.types.CandidateDiagnostics.{CandidateDiagnostics}
 use Rattle.engine_spec.proofs.Tests.{and-l}
 use Rattle.engine_snapshot.specs.Shown.{shown, shownAll, shownArray}
+use Rattle.matcher_spec.specs.Limits.{candidatesMost}
 
 module _ (n : ℕ) (r : Float) where
   snoc : (a : List Candidate) (c : Candidate) → shownAll n r (a ++ (c ∷ [])) ≡ shownAll n r a ++ (shown n r c ∷ [])

@@ -3,10 +3,10 @@ use Prim.Native.Nat.{ℕ, _-_}
 use mathlib.Core.List.{List, [], _∷_, _++_}
 use lib.ListN.{length, replicate}
 use lib.Ieee.{Float}
-use Rattle.matcher_spec.specs.Limits.{candidatesMost}
 use Rattle.matcher_spec.specs.declared.types.Candidate.{Candidate}
 use Rattle.engine_spec.specs.Opening.{blankCandidate}
 use Rattle.engine_spec.specs.declared.types.CandidateDiagnostics.{CandidateDiagnostics}
+use Rattle.matcher_spec.specs.Limits.{candidatesMost}
 
 -- The array that a snapshot has, by what all candidates share.
 abbrev pub shown : ℕ → Float → Candidate → CandidateDiagnostics

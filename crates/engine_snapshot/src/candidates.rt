@@ -7,9 +7,11 @@ ghost use Rattle.engine_spec.specs.Opening.{blankCandidate};
 ghost use Rattle.engine_spec.specs.Publishing.{comparableFrames, coverage};
 ghost use Rattle.engine_spec.specs.Lent.{window};
 ghost use Rattle.engine_snapshot.specs.Shown.{shownArray};
+ghost use Rattle.matcher_spec.specs.Limits.{candidatesMost};
 use engine_spec::thresholds::TRIMMED_MS;
 use engine_spec::types::CandidateDiagnostics;
 use matcher_bands::centring::context_frames;
+use matcher_spec::limits::CANDIDATES_MOST;
 use matcher_spec::types::MatchResult;
 use numbers::counts::saturating_sub;
 use numbers::float::at_least;
@@ -20,13 +22,13 @@ pub fn candidate_array(
     comparable: usize,
     coverage: f64,
     found: MatchResult,
-) -> [CandidateDiagnostics; 8]
-    requires { ⌜ found .count ≤ 8 ⌝ }
+) -> [CandidateDiagnostics; CANDIDATES_MOST]
+    requires { ⌜ found .count ≤ candidatesMost ⌝ }
     ensures { λ r. ⌜ r ≡ shownArray comparable coverage (listed found) ⌝ }
 {
     let n = found.count;
     let candidates = found.candidates;
-    let mut rows = [blank_candidate(); 8];
+    let mut rows = [blank_candidate(); CANDIDATES_MOST];
     let mut i = 0usize;
     while i < n {
         let c = candidates[i];
@@ -44,7 +46,7 @@ pub fn candidate_array(
 
 // How many there are.
 pub fn found_count(found: MatchResult) -> usize
-    requires { ⌜ found .count ≤ 8 ⌝ }
+    requires { ⌜ found .count ≤ candidatesMost ⌝ }
     ensures { λ r. ⌜ r ≡ length (listed found) ⌝ }
 {
     found.count

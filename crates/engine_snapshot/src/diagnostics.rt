@@ -8,6 +8,7 @@ ghost use Rattle.matcher_spec.specs.Candidates.{listed, marginOf};
 ghost use Rattle.engine_spec.specs.Publishing.{ambiguous, coverage, diagnosticsOf, isPublishing, magnitudeOf, trackCount};
 ghost use Rattle.engine_spec.specs.Lent.{window};
 ghost use Rattle.engine_decision.specs.Decided.{decisionIn};
+ghost use Rattle.matcher_spec.specs.Limits.{candidatesMost};
 use crate::candidates::candidate_array;
 use crate::candidates::comparable_frames;
 use crate::candidates::coverage;
@@ -34,7 +35,7 @@ pub fn diagnostics_of(
     values: &[f32],
     d: Decision,
 ) -> Diagnostics
-    requires { ⌜ d .found .count ≤ 8 ⌝ ∗ ⌜ 0 < length (now times) ⌝ ∗ ⌜ length (now times) ≤ length (now energies) ⌝ }
+    requires { ⌜ d .found .count ≤ candidatesMost ⌝ ∗ ⌜ 0 < length (now times) ⌝ ∗ ⌜ length (now times) ≤ length (now energies) ⌝ }
     ensures { λ r. ⌜ r ≡ diagnosticsOf settings (window bands (now (times .entry)) (now (energies .entry)) (now (values .entry))) (decisionIn d) ⌝ }
 {
     let n = times.len();
@@ -113,7 +114,7 @@ fn track_count(h: Hypothesis) -> usize
 
 // The margin of a whole search, or 0.
 fn dense_margin(global: bool, found: MatchResult) -> f64
-    requires { ⌜ found .count ≤ 8 ⌝ }
+    requires { ⌜ found .count ≤ candidatesMost ⌝ }
     ensures { λ r. ⌜ r ≡ cond global (marginOf (listed found)) zero⁺ ⌝ }
 {
     if global {

@@ -9,6 +9,7 @@ ghost use Rattle.engine_spec.specs.Publishing.{betweenZeroAndOne, confidenceOf,
 ghost use Rattle.engine_spec.specs.Lent.{window};
 ghost use Rattle.engine_lock.specs.Views.{endingAt, reachedIn};
 ghost use Rattle.engine_decision.specs.Decided.{decisionIn};
+ghost use Rattle.matcher_spec.specs.Limits.{candidatesMost};
 use crate::diagnostics::diagnostics_of;
 use crate::diagnostics::is_publishing;
 use crate::spectral::best_or_blank;
@@ -39,7 +40,7 @@ pub fn publish(
     d: Decision,
     milestones: Milestones,
 ) -> Snapshot
-    requires { ⌜ d .found .count ≤ 8 ⌝ ∗ ⌜ 0 < length (now times) ⌝ ∗ ⌜ length (now times) ≤ length (now energies) ⌝ }
+    requires { ⌜ d .found .count ≤ candidatesMost ⌝ ∗ ⌜ 0 < length (now times) ⌝ ∗ ⌜ length (now times) ≤ length (now energies) ⌝ }
     ensures { λ r. ⌜ r ≡ publish settings (window bands (now (times .entry)) (now (energies .entry)) (now (values .entry))) (decisionIn d) milestones ⌝ }
 {
     let n = times.len();
@@ -121,7 +122,7 @@ fn confidence_of(offset: Maybe, correlation: f64, coast: f64) -> f64
 
 // The track's correlation where a track is shown, else the best candidate's.
 fn correlation_of(d: Decision) -> f64
-    requires { ⌜ d .found .count ≤ 8 ⌝ }
+    requires { ⌜ d .found .count ≤ candidatesMost ⌝ }
     ensures { λ r. ⌜ r ≡ cond (isPublishing (d .verdict .state)) (trackCorrelation (d .lock .accepted)) (ofBest (λ (c : Candidate). c .score) (listed (d .found))) ⌝ }
 {
     let verdict = d.verdict;

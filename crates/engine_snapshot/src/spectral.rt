@@ -7,6 +7,7 @@ ghost use Rattle.matcher_spec.specs.declared.types.Candidate.{Candidate};
 ghost use Rattle.engine_spec.specs.Publishing.{freshEvidence, ofBest, spectralOf};
 ghost use Rattle.engine_spec.specs.declared.types.Maybe.the-variants as maybe;
 ghost use Rattle.engine_decision.specs.Decided.{decisionIn};
+ghost use Rattle.matcher_spec.specs.Limits.{candidatesMost};
 use engine_decision::kinds::Decision;
 use engine_lock::track::best_of;
 use engine_spec::types::Hypothesis;
@@ -20,7 +21,7 @@ use numbers::whole::count;
 
 // The best candidate's correlations, the margin of a whole search, pending's evidence, the coast.
 pub fn spectral_of(d: Decision) -> SpectralDiagnostics
-    requires { ⌜ d .found .count ≤ 8 ⌝ }
+    requires { ⌜ d .found .count ≤ candidatesMost ⌝ }
     ensures { λ r. ⌜ r ≡ spectralOf (decisionIn d) ⌝ }
 {
     let found = d.found;
@@ -44,7 +45,7 @@ pub fn spectral_of(d: Decision) -> SpectralDiagnostics
 
 // The best candidate, or one of zeros.
 pub fn best_or_blank(found: MatchResult) -> Candidate
-    requires { ⌜ found .count ≤ 8 ⌝ }
+    requires { ⌜ found .count ≤ candidatesMost ⌝ }
     ensures { λ r. ⌜ (r .score ≡ ofBest (λ (c : Candidate). c .score) (listed found)) × (r .«first_half_score» ≡ ofBest (λ (c : Candidate). c .«first_half_score») (listed found)) × (r .«second_half_score» ≡ ofBest (λ (c : Candidate). c .«second_half_score») (listed found)) × (r .«recent_score» ≡ ofBest (λ (c : Candidate). c .«recent_score») (listed found)) ⌝ }
 {
     if found.count == 0 {
@@ -76,7 +77,7 @@ fn fresh_evidence(pending: Hypothesis) -> f64
 
 // Only a whole search has a competing peak.
 fn margin_if(global: bool, found: MatchResult) -> Maybe
-    requires { ⌜ found .count ≤ 8 ⌝ }
+    requires { ⌜ found .count ≤ candidatesMost ⌝ }
     ensures { λ r. ⌜ r ≡ cond global (maybe.Is (marginOf (listed found))) maybe.Absent ⌝ }
 {
     if global {

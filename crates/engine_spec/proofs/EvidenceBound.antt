@@ -15,10 +15,10 @@ use Rattle.numbers_spec.proofs.Sums.{sub-at-most}
 use Rattle.numbers_spec.proofs.Products.{mul-at-most, div-at-most}
 use Rattle.numbers_spec.proofs.WholeLaws.{round-laws}
 use Rattle.matcher_spec.specs.Centring.{contextMs, contextFrames}
-use Rattle.matcher_spec.specs.Limits.{hopMost, farthestMs, trackMost}
 use Rattle.engine_spec.specs.Windows.{Window, endpointOf, evidence}
 use Rattle.engine_spec.specs.Refusals.{within, near, hopInRange, trackNumber}
 use Rattle.engine_spec.proofs.Tests.{and-l, and-r, and-i, T-is}
+use Rattle.matcher_spec.specs.Limits.{hopMost, farthestMs, trackMost}
 
 -- ---- a range that is tested, and a bound
 pub bounded : (l x : Float) → within l x ≡ true → AtMost l x

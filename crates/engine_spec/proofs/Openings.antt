@@ -19,7 +19,6 @@ use Rattle.matcher_spec.specs.Index.{Matcher, acceptsReference, matcherOf, fill
 use Rattle.matcher_spec.specs.SoundSearch.{GoodReference, SoundResult}
 use Rattle.matcher_spec.proofs.SoundSearch.{whole-sound, local-sound}
 use Rattle.matcher_spec.proofs.FilledIndex.{filled-index}
-use Rattle.matcher_spec.specs.Limits.{framesMost, bandsMost}
 use Rattle.engine_spec.specs.Windows.{Index, Window, indexed, matcherIn, query, endpointOf}
 use Rattle.matcher_spec.specs.Features.{Features}
 use Rattle.engine_spec.specs.Refusals.{numberOf, refuses, near, nearOrNotFinite, validConfiguration, hopInRange, countsInRange, bothOrNeither, openingRefusal, validSettings, Submission, handedRefusal}
@@ -41,6 +40,7 @@ use Rattle.engine_spec.proofs.Tests.{cond-elim, and-l, and-r, and-i, or
 use Rattle.engine_spec.proofs.Effects.{Fair, Sound, trim}
 use Rattle.engine_spec.proofs.Handed.{passed, every-at, near-within, unrefused, near-endpoint, good-window}
 use Rattle.engine_spec.proofs.EvidenceBound.{hop-between, evidence-bound, trimmed-finite}
+use Rattle.matcher_spec.specs.Limits.{framesMost, bandsMost}
 
 -- ---- a lent buffer that begins with what opening filled in
 -- It is what opening would make of it: its front again, and its own tail.

@@ -13,7 +13,6 @@ use Rattle.numbers_spec.specs.Arithmetic.{_⊕_, _⊖_, zero⁺, absolute, atLe
 use Rattle.numbers_spec.specs.Values.{AtMost}
 use Rattle.numbers_spec.proofs.Order.{at-most-finite}
 use Rattle.numbers_spec.proofs.Sums.{add-at-most, sub-at-most}
-use Rattle.matcher_spec.specs.Limits.{candidatesMost, farthestMs, trackMost}
 use Rattle.matcher_spec.specs.declared.types.Candidate.{Candidate}
 use Rattle.matcher_spec.specs.Index.{Matcher}
 use Rattle.matcher_spec.specs.Search.{wholeSearch, localSearch}
@@ -46,6 +45,7 @@ use Rattle.engine_spec.proofs.Effects.{Sound}
 use Rattle.engine_spec.proofs.Tests.{cond-elim, and-l, and-r, and-i, or-l, not-not, T-is}
 use Rattle.engine_spec.proofs.EvidenceBound.{bounded, in-range, at-most-wider, farthest-finite, track-most-finite, evidence-bound}
 use Rattle.engine_spec.proofs.MovedBound.{foundMost, placeMost, moved-at-most, since-finite, since-not-negative}
+use Rattle.matcher_spec.specs.Limits.{candidatesMost, farthestMs, trackMost}
 
 -- ---- what is kept of a state
 -- A place: its offset within 2^42, its other numbers within 10^13.

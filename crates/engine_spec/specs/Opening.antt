@@ -3,7 +3,6 @@ use mathlib.Core.Bool.{Bool, true, false, cond, not, _&&_}
 use lib.ListN.{length, getD, replicate}
 use lib.Ieee.{Float, nan, inf, binary64, ofBits}
 use Rattle.numbers_spec.specs.Arithmetic.{zero⁺}
-use Rattle.matcher_spec.specs.Limits.{candidatesMost}
 use Rattle.matcher_spec.specs.Index.{Matcher, acceptsReference, matcherOf, filled}
 use Rattle.engine_spec.specs.Windows.{Index}
 use Rattle.matcher_spec.specs.Features.{Features}
@@ -25,6 +24,7 @@ use Rattle.engine_spec.specs.declared.types.State.the-variants as state
 use Rattle.engine_spec.specs.declared.types.LockPhase.the-variants as phase
 use Rattle.engine_spec.specs.declared.types.Stage.the-variants as stage
 use Rattle.engine_spec.specs.declared.types.WithholdReason.the-variants as reason
+use Rattle.matcher_spec.specs.Limits.{candidatesMost}
 
 -- ---- nothing yet
 -- No place, and no whole search: also what a jump leaves (document 01).

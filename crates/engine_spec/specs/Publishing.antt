@@ -6,7 +6,6 @@ use lib.ListN.{length, replicate}
 use lib.Ieee.{Float, lt, eq}
 use Rattle.numbers_spec.specs.Arithmetic.{_⊕_, _⊖_, _⊗_, _⊘_, zero⁺, one, atLeast, countOf, magnitude}
 use Rattle.matcher_spec.specs.Centring.{contextFrames}
-use Rattle.matcher_spec.specs.Limits.{candidatesMost}
 use Rattle.matcher_spec.specs.Candidates.{marginOf}
 use Rattle.matcher_spec.specs.declared.types.Candidate.{Candidate}
 use Rattle.matcher_spec.specs.Index.{Matcher}
@@ -38,6 +37,7 @@ use Rattle.engine_spec.specs.declared.types.Stage.{Stage}
 use Rattle.engine_spec.specs.declared.types.Stage.the-variants as stage
 use Rattle.engine_spec.specs.declared.types.WithholdReason.{WithholdReason}
 use Rattle.engine_spec.specs.declared.types.WithholdReason.the-variants as reason
+use Rattle.matcher_spec.specs.Limits.{candidatesMost}
 
 -- ---- the decision
 -- What is said of the place: the state, why nothing supported is shown, the offset shown, how far the local best lay from the track, and the coast.

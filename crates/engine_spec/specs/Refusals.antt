@@ -8,7 +8,6 @@ use lib.Ieee.Scale.{finite}
 use Rattle.numbers_spec.specs.Arithmetic.{zero⁺, one}
 use Rattle.matcher_spec.specs.Timeline.{validValues}
 use Rattle.matcher_spec.specs.Energy.{reduction}
-use Rattle.matcher_spec.specs.Limits.{candidatesMost, hopLeast, hopMost, framesMost, windowMost, bandsMost, farthestMs, trackMost}
 use Rattle.engine_spec.specs.Windows.{Index, Window}
 use Rattle.matcher_spec.specs.Features.{Features}
 use Rattle.engine_spec.specs.declared.types.RecordedMs.{RecordedMs}
@@ -31,6 +30,7 @@ use Rattle.engine_spec.specs.declared.types.Estimate.the-variants as est
 use Rattle.engine_spec.specs.declared.types.Answer.{Answer}
 use Rattle.engine_spec.specs.declared.types.Answer.the-variants as answer
 use Rattle.numbers_spec.specs.Rows.{every}
+use Rattle.matcher_spec.specs.Limits.{hopLeast, hopMost, framesMost, windowMost, bandsMost, candidatesMost, farthestMs, trackMost}
 
 -- ---- the numbers
 unfoldable pub numberOf : Answer → ℕ

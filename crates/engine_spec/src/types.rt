@@ -1,4 +1,5 @@
 // The engine's types (types.rs, engine.rs). An `Option` is an enum that carries its numbers or
+use matcher_spec::limits::CANDIDATES_MOST;
 // nothing; an array of 8 with a count stands for a `Vec` of candidates.
 
 // ---- milliseconds, by what they are counted on: recorded sound, the reference, the clock
@@ -118,7 +119,7 @@ pub struct Diagnostics {
     pub offset_tracker_confirmed: bool,
     pub offset_tracker_stable: bool,
     pub candidate_count: usize,
-    pub candidates: [CandidateDiagnostics; 8],
+    pub candidates: [CandidateDiagnostics; CANDIDATES_MOST],
     pub spectral: SpectralDiagnostics,
 }
 

@@ -32,6 +32,7 @@ use engine_spec::types::Diagnostics;
 use engine_spec::types::Milestones;
 use engine_spec::types::Snapshot;
 use engine_spec::types::SpectralDiagnostics;
+use matcher_spec::limits::CANDIDATES_MOST;
 
 // The first word of what is written, and how many words a snapshot takes with it.
 pub const LAYOUT: u64 = 1;
@@ -178,7 +179,7 @@ fn diagnostics_words(d: Diagnostics) -> [u64; 12]
 
 fn diagnostics_with(
     words: &[u64],
-    candidates: [CandidateDiagnostics; 8],
+    candidates: [CandidateDiagnostics; CANDIDATES_MOST],
     spectral: SpectralDiagnostics,
 ) -> Diagnostics
     requires { ⌜ length (now words) ≡ 12 ⌝ }

@@ -113,6 +113,9 @@ fn settings_words(s: Settings) -> [u64; 9]
     ]
 }
 
+// How many counts a u16 holds.
+const COUNTS: u64 = 0x1_0000;
+
 fn settings_of(words: &[u64]) -> Settings
     requires { ⌜ length (now words) ≡ 9 ⌝ }
     ensures { λ r. ⌜ r ≡ settingsOf (now (words .entry)) ⌝ }
@@ -121,8 +124,8 @@ fn settings_of(words: &[u64]) -> Settings
     Settings {
         configuration,
         hop_ms: word_float(words[5]),
-        reference_frames: (words[6] % 65536) as u16,
-        reference_bands: (words[7] % 65536) as u16,
+        reference_frames: (words[6] % COUNTS) as u16,
+        reference_bands: (words[7] % COUNTS) as u16,
         reference_start_ms: ReferenceMs(word_float(words[8])),
     }
 }

@@ -2,8 +2,8 @@
 use Prim.Native.Nat.{ℕ, _+_, _*_, _/_}
 use mathlib.Core.Bool.{cond, _&&_}
 use lib.Dec.{leb}
-use Rattle.matcher_spec.specs.Limits.{framesMost, windowMost, bandsMost}
 use Rattle.engine_spec.specs.Refusals.{countsInRange}
+use Rattle.matcher_spec.specs.Limits.{framesMost, windowMost, bandsMost}
 
 -- ---- the index of a reference (engine_spec, `indexFits`)
 unfoldable pub fineLength : ℕ → ℕ → ℕ

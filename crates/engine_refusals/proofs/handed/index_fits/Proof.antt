@@ -11,16 +11,16 @@ use Rattle.engine_refusals.proofs.handed.index_fits.Tie as tie
 -- `engine_refusals::handed::index_fits` meets its contract. Assumes nothing.
 
 mul-result : tie.Need-mul-result
-mul-result c = omega (arith, few (c .args .bands) (c .args .frames) 65535 65535 (omega arith) (omega arith))
+mul-result c = omega (arith, few (c .args .bands) (c .args .frames) (2 ^ 16) (2 ^ 16) (omega arith) (omega arith))
 
 mul-result-2 : tie.Need-mul-result-2
-mul-result-2 c = omega (arith, few (c .args .bands) (c .args .frames / 4) 65535 65536 (omega arith) (omega arith))
+mul-result-2 c = omega (arith, few (c .args .bands) (c .args .frames / 4) (2 ^ 16) (2 ^ 16) (omega arith) (omega arith))
 
 mul-result-3 : tie.Need-mul-result-3
-mul-result-3 c = omega (arith, few (c .args .bands) (c .args .frames + 1) 65535 65536 (omega arith) (omega arith))
+mul-result-3 c = omega (arith, few (c .args .bands) (c .args .frames + 1) (2 ^ 16) (2 ^ 16) (omega arith) (omega arith))
 
 mul-result-4 : tie.Need-mul-result-4
-mul-result-4 c = omega (arith, few (c .args .bands) (c .args .frames / 4 + 1) 65535 65536 (omega arith) (omega arith))
+mul-result-4 c = omega (arith, few (c .args .bands) (c .args .frames / 4 + 1) (2 ^ 16) (2 ^ 16) (omega arith) (omega arith))
 
 returns : tie.Need-returns
 unfolding indexFits

@@ -6,9 +6,10 @@ use Rattle.engine_spec.specs.Refusals.{validWindow}
 use Rattle.engine_refusals.proofs.TestLaws.{few}
 use Rattle.engine_refusals.proofs.handed.is_valid_window.Statement.{statement}
 use Rattle.engine_refusals.proofs.handed.is_valid_window.Tie as tie
+use Rattle.matcher_spec.specs.Limits.{windowMost, bandsMost}
 
 mul-result : tie.Need-mul-result
-mul-result c = omega (arith, few (c .before .before .before .args .bands) (length (c .before .before .before .args .times .now)) 64 1024 (omega arith) (omega arith))
+mul-result c = omega (arith, few (c .before .before .before .args .bands) (length (c .before .before .before .args .times .now)) bandsMost windowMost (omega arith) (omega arith))
 
 returns : tie.Need-returns
 unfolding validWindow

@@ -10,6 +10,7 @@ use Rattle.engine_spec.specs.Refusals.{openingRefusal}
 use Rattle.engine_refusals.proofs.TestLaws.{few, counted}
 use Rattle.engine_refusals.proofs.handed.opening_refusal.Statement.{statement}
 use Rattle.engine_refusals.proofs.handed.opening_refusal.Tie as tie
+use Rattle.matcher_spec.specs.Limits.{framesMost, bandsMost}
 
 returns : tie.Need-returns
 unfolding openingRefusal
@@ -27,7 +28,7 @@ mul-if4 : tie.Need-mul-if4
 mul-if4 c =
     let start = c .before .before .before .before .before .before .before .before .before .before .before .before in
     let k = counted (length (start .args .times .now)) (start .args .bands) (sym (c .before .are-counts .ensures) ∙ not-false (c .before .are-counts .result) (c .if3 .left)) in
-    omega (arith, few (start .args .bands) (length (start .args .times .now)) 64 65535 (k .bands) (k .frames))
+    omega (arith, few (start .args .bands) (length (start .args .times .now)) bandsMost framesMost (k .bands) (k .frames))
 
 returns-4 : tie.Need-returns-4
 unfolding openingRefusal

@@ -7,15 +7,16 @@ use Rattle.engine_spec.specs.Refusals.{workFits}
 use Rattle.engine_refusals.proofs.TestLaws.{few}
 use Rattle.engine_refusals.proofs.handed.work_fits.Statement.{statement}
 use Rattle.engine_refusals.proofs.handed.work_fits.Tie as tie
+use Rattle.matcher_spec.specs.Limits.{windowMost, bandsMost}
 
 mul-result-2 : tie.Need-mul-result-2
-mul-result-2 c = omega (arith, few (2 * c .args .bands) (c .args .frames) 128 1024 (omega arith) (omega arith))
+mul-result-2 c = omega (arith, few (2 * c .args .bands) (c .args .frames) (2 * bandsMost) windowMost (omega arith) (omega arith))
 
 mul-result-4 : tie.Need-mul-result-4
-mul-result-4 c = omega (arith, few (3 * c .args .bands) (c .args .frames + 1) 192 1025 (omega arith) (omega arith))
+mul-result-4 c = omega (arith, few (3 * c .args .bands) (c .args .frames + 1) (3 * bandsMost) (windowMost + 1) (omega arith) (omega arith))
 
 add-result-2 : tie.Need-add-result-2
-add-result-2 c = omega (arith, few (3 * c .args .bands) (c .args .frames + 1) 192 1025 (omega arith) (omega arith))
+add-result-2 c = omega (arith, few (3 * c .args .bands) (c .args .frames + 1) (3 * bandsMost) (windowMost + 1) (omega arith) (omega arith))
 
 returns : tie.Need-returns
 unfolding workFits

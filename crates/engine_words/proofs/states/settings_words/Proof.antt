@@ -12,8 +12,8 @@ returns : tie.Need-returns
 unfolding settingsWords settingsOf configurationOf
 returns c =
     let s = c .before .before .before .before .before .before .before .before .before .before .args .s in
-    let f : s .«reference_frames» % 65536 ≡ s .«reference_frames» = mod-eq-of-lt (search needs) in
-    let b : s .«reference_bands» % 65536 ≡ s .«reference_bands» = mod-eq-of-lt (search needs) in
+    let f : s .«reference_frames» % 2 ^ 16 ≡ s .«reference_frames» = mod-eq-of-lt (search needs) in
+    let b : s .«reference_bands» % 2 ^ 16 ≡ s .«reference_bands» = mod-eq-of-lt (search needs) in
     (simp (c .before .before .before .before .before .before .before .before .float-word .ensures .0, c .before .before .before .before .before .before .before .float-word2 .ensures .0, c .before .before .before .before .before .before .float-word3 .ensures .0, c .before .before .before .before .before .float-word4 .ensures .0, c .before .before .before .before .float-word5 .ensures .0, c .before .before .before .float-word6 .ensures .0, c .float-word7 .ensures .0), simp (f, b, c .before .before .before .before .before .before .before .before .float-word .ensures .1, c .before .before .before .before .before .before .before .float-word2 .ensures .1, c .before .before .before .before .before .before .float-word3 .ensures .1, c .before .before .before .before .before .float-word4 .ensures .1, c .before .before .before .before .float-word5 .ensures .1, c .before .before .before .float-word6 .ensures .1, c .float-word7 .ensures .1))
 
 pub settings-words-spec : {M : Type 1} → statement M

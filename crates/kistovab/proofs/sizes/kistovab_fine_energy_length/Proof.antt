@@ -7,6 +7,7 @@ use Rattle.kistovab.specs.Sizes.{fineEnergyLength}
 use Rattle.kistovab.proofs.SizeLaws.{few}
 use Rattle.kistovab.proofs.sizes.kistovab_fine_energy_length.Statement.{statement}
 use Rattle.kistovab.proofs.sizes.kistovab_fine_energy_length.Tie as tie
+use Rattle.matcher_spec.specs.Limits.{framesMost, bandsMost}
 
 returns : tie.Need-returns
 unfolding fineEnergyLength
@@ -19,7 +20,7 @@ returns-2 c = simp (le-leb _ _ (c .before .if1 .left), lt-leb _ _ (c .if2 .taken
 mul-result : tie.Need-mul-result
 mul-result c =
     let a = c .before .before .args in
-    let h = few (a .bands) 64 ((a .frames + 1)) 65536 (omega arith) (omega arith) in
+    let h = few (a .bands) bandsMost (a .frames + 1) (framesMost + 1) (omega arith) (omega arith) in
     omega arith
 
 returns-3 : tie.Need-returns-3

@@ -7,6 +7,7 @@ use Rattle.kistovab.specs.Sizes.{work32Length}
 use Rattle.kistovab.proofs.SizeLaws.{few}
 use Rattle.kistovab.proofs.sizes.kistovab_work32_length.Statement.{statement}
 use Rattle.kistovab.proofs.sizes.kistovab_work32_length.Tie as tie
+use Rattle.matcher_spec.specs.Limits.{windowMost, bandsMost}
 
 returns : tie.Need-returns
 unfolding work32Length
@@ -19,7 +20,7 @@ returns-2 c = simp (le-leb _ _ (c .before .if1 .left), lt-leb _ _ (c .if2 .taken
 mul-result-2 : tie.Need-mul-result-2
 mul-result-2 c =
     let a = c .before .before .args in
-    let h = few (2 * a .bands) 128 (a .frames) 1024 (omega arith) (omega arith) in
+    let h = few (2 * a .bands) (2 * bandsMost) (a .frames) windowMost (omega arith) (omega arith) in
     omega arith
 
 returns-3 : tie.Need-returns-3

@@ -7,6 +7,7 @@ use Rattle.kistovab.specs.Sizes.{work64Length}
 use Rattle.kistovab.proofs.SizeLaws.{few}
 use Rattle.kistovab.proofs.sizes.kistovab_work64_length.Statement.{statement}
 use Rattle.kistovab.proofs.sizes.kistovab_work64_length.Tie as tie
+use Rattle.matcher_spec.specs.Limits.{windowMost, bandsMost}
 
 returns : tie.Need-returns
 unfolding work64Length
@@ -23,13 +24,13 @@ returns-3 c = simp (le-leb _ _ (c .before .before .if1 .left), le-leb _ _ (c .be
 mul-result-2 : tie.Need-mul-result-2
 mul-result-2 c =
     let a = c .before .before .before .args in
-    let h = few (3 * a .bands) 192 ((a .frames + 1)) 1025 (omega arith) (omega arith) in
+    let h = few (3 * a .bands) (3 * bandsMost) (a .frames + 1) (windowMost + 1) (omega arith) (omega arith) in
     omega arith
 
 add-result-2 : tie.Need-add-result-2
 add-result-2 c =
     let a = c .before .before .before .args in
-    let h = few (3 * a .bands) 192 ((a .frames + 1)) 1025 (omega arith) (omega arith) in
+    let h = few (3 * a .bands) (3 * bandsMost) (a .frames + 1) (windowMost + 1) (omega arith) (omega arith) in
     omega arith
 
 returns-4 : tie.Need-returns-4
