@@ -18,7 +18,7 @@
 --   70 .. 75                  milestones
 --
 -- As words of a slice of its own a snapshot is 77: the layout number first.
-use Prim.Native.Nat.{ℕ, _%_}
+use Prim.Native.Nat.{ℕ, _%_, _^_}
 use mathlib.Core.Bool.{Bool, cond}
 use mathlib.Core.List.{List, [], _∷_}
 use lib.Dec.{eqb}

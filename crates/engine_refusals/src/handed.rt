@@ -1,5 +1,5 @@
 // The order of refusals.
-ghost use Prim.Native.Nat.{_≤_};
+ghost use Prim.Native.Nat.{_^_, _<_, _≤_};
 ghost use lib.ListN.{length};
 ghost use mathlib.Core.Path.{_≡_};
 ghost use Rattle.engine_spec.specs.Refusals.{handedRefusal, indexFits, openingRefusal, submissionRefusal, validWindow, workFits};

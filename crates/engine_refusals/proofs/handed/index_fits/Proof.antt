@@ -1,6 +1,6 @@
 -- `engine_refusals::handed::index_fits` meets its contract. Assumes nothing.
 use mathlib.Core.Path.{refl}
-use Prim.Native.Nat.{_+_, _/_}
+use Prim.Native.Nat.{_+_, _/_, _^_}
 use native.Mathlib.Omega.{arith}
 use borrow.Author.Needs.{needs}
 use Rattle.engine_spec.specs.Refusals.{indexFits}

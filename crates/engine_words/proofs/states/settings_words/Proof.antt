@@ -1,5 +1,5 @@
 -- `engine_words::states::settings_words` meets its contract. Assumes nothing.
-use Prim.Native.Nat.{_%_}
+use Prim.Native.Nat.{_%_, _^_}
 use mathlib.Core.Path.{_≡_}
 use native.Mathlib.Nat.{mod-eq-of-lt}
 use borrow.Author.Needs.{needs}
