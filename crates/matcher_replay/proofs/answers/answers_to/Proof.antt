@@ -1,12 +1,14 @@
--- `matcher_replay::case::answers_to` is safe: a case within the limits fits the arrays. Assumes nothing.
+-- `matcher_replay::answers::answers_to` meets its contract: a case within the limits fits the arrays. Assumes nothing.
 use mathlib.Core.Path.{sym}
 use native.Mathlib.Omega.{arith}
 use lib.ListN.{length-take}
 use lib.Seq.{length-take-le}
 use Rattle.matcher_replay.proofs.CaseLaws.{small}
+use lib.Ieee.{ofBits}
+use Rattle.matcher_replay.specs.Agreement.{answersOf}
 use borrow.Author.Needs.{needs}
-use Rattle.matcher_replay.proofs.case.answers_to.Statement.{statement}
-use Rattle.matcher_replay.proofs.case.answers_to.Tie as tie
+use Rattle.matcher_replay.proofs.answers.answers_to.Statement.{statement}
+use Rattle.matcher_replay.proofs.answers.answers_to.Tie as tie
 
 mul-size : tie.Need-mul-size
 mul-size c = let s = small _ (c .before .pre) in omega arith
@@ -29,6 +31,10 @@ answers-within-requires c κs =
     let s = small _ p in
     (p, simp length-take (omega arith))
 
+returns : tie.Need-returns
+unfolding answersOf ofBits
+returns c = c .before .before .before .before .before .before .answers-within .ensures
+
 pub answers-to-spec : {M : Type 1} → statement M
 answers-to-spec =
     tie.close
@@ -43,4 +49,4 @@ answers-to-spec =
     (λ c. search needs)
     (λ c. search needs)
     answers-within-requires
-    (λ c. search needs))
+    returns)
