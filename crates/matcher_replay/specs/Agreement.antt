@@ -1,6 +1,6 @@
 -- What the matcher answers to a case, and whether a line says so. Definitions only.
 use Prim.Native.Nat.{ℕ, zero, suc, _+_, _-_, _*_, _/_}
-use mathlib.Core.Bool.{Bool, true, false, _&&_, cond}
+use mathlib.Core.Bool.{Bool, false, _&&_, cond}
 use mathlib.Core.List.{List}
 use lib.Dec.{eqb, ltb}
 use lib.ListN.{drop, length, replicate, take}
@@ -78,9 +78,10 @@ module _ (c : Case) where
   -- The same of the index that four buffers hold once they are filled from the reference.
   unfoldable pub answersIn : List Float → List Float → List Float → List Float → Answers
   answersIn fine coarse fineSquares coarseSquares =
+      let accepted = acceptsReference (c .hop) (c .bands) referenceTimes referenceSound in
       let m = matcherOf (c .hop) (c .bands) referenceTimes referenceSound in
-      cond (acceptsReference (c .hop) (c .bands) referenceTimes referenceSound)
-      (heardIn (filled true (m .fine .values) fine) (filled true (m .coarse .values) coarse) (filled true (m .fine .squares) fineSquares) (filled true (m .coarse .squares) coarseSquares))
+      cond accepted
+      (heardIn (filled accepted (m .fine .values) fine) (filled accepted (m .coarse .values) coarse) (filled accepted (m .fine .squares) fineSquares) (filled accepted (m .coarse .squares) coarseSquares))
       rejected
 
   -- Zeros stand behind the index.

@@ -1,7 +1,7 @@
 // What the matcher answers to a case, and whether a line says so.
 ghost use Prim.Native.Nat.{_*_};
 ghost use lib.ListN.{length};
-ghost use mathlib.Core.Bool.{true};
+ghost use mathlib.Core.Bool.{cond, true};
 ghost use mathlib.Core.Path.{_≡_};
 ghost use Rattle.matcher_replay.specs.Agreement.{answersIn, answersOf, heardIn, indexDigest, lineBytes, rejected, saysOf, searchedIn};
 ghost use Rattle.matcher_replay.specs.Cases.{coarseRoom, coarseSquaresRoom, fineRoom, fineSquaresRoom, isSmall, work32Room, work64Room};
@@ -110,28 +110,12 @@ fn answers_within(
         times,
         values,
     );
-    if filled {
-        return search_in(case, fine, coarse, fine_squares, coarse_squares);
-    }
-    rejected()
+    search_in(filled, case, fine, coarse, fine_squares, coarse_squares)
 }
 
-// The answers where the reference is rejected.
-fn rejected() -> Answers
-    ensures { λ r. ⌜ r ≡ rejected ⌝ }
-{
-    Answers {
-        filled: 0,
-        index: 0,
-        whole_count: 0,
-        whole: 0,
-        local_count: 0,
-        local: 0,
-    }
-}
-
-// The window's searches of the index.
+// The window's searches of an index that was filled.
 fn search_in(
+    filled: bool,
     case: Case,
     fine: &[f32],
     coarse: &[f32],
@@ -140,8 +124,11 @@ fn search_in(
 ) -> Answers
     requires { ⌜ isSmall case ≡ true ⌝ ∗ ⌜ length (now fine) ≡ fineRoom ⌝ ∗ ⌜ length (now coarse) ≡ coarseRoom ⌝ }
     requires { ⌜ length (now «fine_squares») ≡ fineSquaresRoom ⌝ ∗ ⌜ length (now «coarse_squares») ≡ coarseSquaresRoom ⌝ }
-    ensures { λ r. ⌜ r ≡ heardIn case (now (fine .entry)) (now (coarse .entry)) (now («fine_squares» .entry)) (now («coarse_squares» .entry)) ⌝ }
+    ensures { λ r. ⌜ r ≡ cond filled (heardIn case (now (fine .entry)) (now (coarse .entry)) (now («fine_squares» .entry)) (now («coarse_squares» .entry))) rejected ⌝ }
 {
+    if !filled {
+        return rejected();
+    }
     let window = case.window;
     let size = case.bands * window;
     let mut times = [0.0f64; CASE_WINDOW];
@@ -159,6 +146,20 @@ fn search_in(
         &mut work32,
         &mut work64,
     )
+}
+
+// The answers where the reference is rejected.
+fn rejected() -> Answers
+    ensures { λ r. ⌜ r ≡ rejected ⌝ }
+{
+    Answers {
+        filled: 0,
+        index: 0,
+        whole_count: 0,
+        whole: 0,
+        local_count: 0,
+        local: 0,
+    }
 }
 
 // The same, with slices for the window and to work in.

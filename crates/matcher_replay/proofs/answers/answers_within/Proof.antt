@@ -1,10 +1,9 @@
 -- `matcher_replay::answers::answers_within` meets its contract: a case within the limits fits the slices, and what fills them keeps their lengths. Assumes nothing.
-use mathlib.Core.Path.{ap, _∙_}
+use mathlib.Core.Path.{_∙_}
 use native.Mathlib.Omega.{arith}
 use lib.Ieee.{ofBits}
-use Rattle.numbers.specs.Arithmetic.{zero⁺}
-use Rattle.matcher_replay.specs.Sounds.{referenceValues, timesFrom}
-use Rattle.matcher_replay.proofs.AnswerLaws.{answered, not-answered}
+use lib.ListN.{length}
+use Rattle.matcher_replay.proofs.AnswerLaws.{answered}
 use Rattle.matcher_replay.proofs.CaseLaws.{small}
 use borrow.Author.Needs.{needs}
 use Rattle.matcher_replay.proofs.answers.answers_within.Statement.{statement}
@@ -27,7 +26,7 @@ fill-index-requires c κs =
 
 search-in-requires : tie.Need-search-in-requires
 search-in-requires c κs =
-    let indexed = c .before .before .before .before .before .before .before .before .before .before .before .before .before in
+    let indexed = c .before .before .before .before .before .before .before .before .before .before .before .before in
     let p = indexed .before .before .before .before .before .before .before .before .before .before .before .before .before .before .before .before .before .before .before .before .before .pre in
     let k = indexed .fill-index .kept in
     (p .0, omega arith)
@@ -35,24 +34,14 @@ search-in-requires c κs =
 returns : tie.Need-returns
 unfolding ofBits
 returns c =
-    let start = c .before .before .before .before .before .before .before .before .before .before .before .before .before .before .before .before .before .before .before .before .before .before .before .before .before .before .before .before .before .before .before .before .before .before .before in
+    let indexed = c .before .before .before .before .before .before .before .before .before .before .before .before .before in
+    let filled = indexed .before .before .before .before .before .before .before .before .before in
+    let timed = filled .before .before .before .before in
+    let start = timed .before .before .before .before .before .before .before .before in
     let a = start .args in
     let p = start .pre in
-    let t = c .before .before .before .before .before .before .before .before .before .before .before .before .before .before .before .before .before .before .before .before .before .before .before .before .before .before .before .fill-times .ensures ∙ ap (timesFrom zero⁺ (a .case .hop)) (p .1 .0) in
-    let v = c .before .before .before .before .before .before .before .before .before .before .before .before .before .before .before .before .before .before .before .before .before .before .before .fill-reference .ensures ∙ ap (referenceValues (a .case .seed) (a .case .period) (a .case .frames)) (p .1 .1 .0) in
-    let f = c .before .before .before .before .before .before .before .before .before .before .before .before .before .before .fill-index .ensures in
-    answered (a .case) (a .fine .now) (a .coarse .now) (a .fine-squares .now) (a .coarse-squares .now) t v (f .0) (c .before .before .before .before .before .if1 .taken) (f .1 .0) (f .1 .1 .0) (f .1 .1 .1 .0) (f .1 .1 .1 .1) (c .search-in .ensures)
-
-returns-2 : tie.Need-returns-2
-unfolding ofBits
-returns-2 c =
-    let start = c .before .before .before .before .before .before .before .before .before .before .before .before .before .before .before .before .before .before .before .before .before .before .before .before .before .before .before .before .before .before .before in
-    let a = start .args in
-    let p = start .pre in
-    let t = c .before .before .before .before .before .before .before .before .before .before .before .before .before .before .before .before .before .before .before .before .before .before .before .fill-times .ensures ∙ ap (timesFrom zero⁺ (a .case .hop)) (p .1 .0) in
-    let v = c .before .before .before .before .before .before .before .before .before .before .before .before .before .before .before .before .before .before .before .fill-reference .ensures ∙ ap (referenceValues (a .case .seed) (a .case .period) (a .case .frames)) (p .1 .1 .0) in
-    let f = c .before .before .before .before .before .before .before .before .before .before .fill-index .ensures in
-    not-answered (a .case) (a .fine .now) (a .coarse .now) (a .fine-squares .now) (a .coarse-squares .now) t v (f .0) (c .before .if1 .left) (c .rejected .ensures)
+    let f = indexed .fill-index .ensures in
+    answered (a .case) (a .fine .now) (a .coarse .now) (a .fine-squares .now) (a .coarse-squares .now) (length (a .times .now)) (length (a .values .now)) (p .1 .0) (p .1 .1 .0) (timed .fill-times .ensures) (filled .fill-reference .ensures) (f .0) (f .1 .0) (f .1 .1 .0) (f .1 .1 .1 .0) (f .1 .1 .1 .1) (c .search-in .ensures)
 
 pub answers-within-spec : {M : Type 1} → statement M
 answers-within-spec =
@@ -68,12 +57,4 @@ answers-within-spec =
     (λ c. search needs)
     (λ c. search needs)
     (λ c. search needs)
-    returns
-    (λ c κs. search needs)
-    (λ c. search needs)
-    (λ c. search needs)
-    (λ c. search needs)
-    (λ c. search needs)
-    (λ c. search needs)
-    (λ c. search needs)
-    returns-2)
+    returns)

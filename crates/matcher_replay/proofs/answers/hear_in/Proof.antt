@@ -1,9 +1,6 @@
 -- `matcher_replay::answers::hear_in` meets its contract: the slices hold the window. Assumes nothing.
-use mathlib.Core.Path.{ap, _∙_}
-use Prim.Native.Nat.{ℕ}
 use native.Mathlib.Omega.{arith}
-use Rattle.matcher_replay.specs.Agreement.{begin}
-use Rattle.matcher_replay.specs.Sounds.{timesFrom, windowValues}
+use lib.ListN.{length}
 use Rattle.matcher_replay.proofs.AnswerLaws.{heard}
 use Rattle.matcher_replay.proofs.CaseLaws.{small}
 use borrow.Author.Needs.{needs}
@@ -26,9 +23,10 @@ returns c =
     let start = c .before .before .before .before .before .before .before .before .before .before .before .before .before .before .before .before .before .before .before .before .before .before .before .before .before in
     let a = start .args in
     let p = start .pre in
-    let t = c .before .before .before .before .before .before .before .before .before .before .before .before .before .before .before .fill-times .ensures ∙ ap (timesFrom begin (a .case .hop)) (p .1 .1 .1 .1 .1 .0) in
-    let v = c .before .before .before .before .before .before .before .before .before .before .before .fill-window .ensures ∙ ap (windowValues (a .case .seed) (a .case .period) (a .case .window) (a .case .from)) (p .1 .1 .1 .1 .1 .1 .0) in
-    heard (a .case) (a .fine .now) (a .coarse .now) (a .fine-squares .now) (a .coarse-squares .now) t v (c .before .before .before .before .search-within .ensures)
+    heard (a .case) (a .fine .now) (a .coarse .now) (a .fine-squares .now) (a .coarse-squares .now) (length (a .times .now)) (length (a .values .now)) (p .1 .1 .1 .1 .1 .0) (p .1 .1 .1 .1 .1 .1 .0)
+    (c .before .before .before .before .before .before .before .before .before .before .before .before .before .before .before .fill-times .ensures)
+    (c .before .before .before .before .before .before .before .before .before .before .before .fill-window .ensures)
+    (c .before .before .before .before .search-within .ensures)
 
 pub hear-in-spec : {M : Type 1} → statement M
 hear-in-spec =
