@@ -1,17 +1,16 @@
 -- What is answered to a case, from what its parts are known to be. Assumes nothing.
 use mathlib.Core.Path.{_≡_, ap, _∙_}
-use Prim.Native.Nat.{ℕ, _*_}
+use Prim.Native.Nat.{ℕ}
 use mathlib.Core.Bool.{Bool, true, false, not, cond, false≢true, true≢false}
 use mathlib.Core.List.{List}
 use lib.Ieee.{Float}
-use Rattle.numbers.specs.Arithmetic.{_⊕_, _⊖_, _⊗_, real, zero⁺}
+use Rattle.numbers.specs.Arithmetic.{_⊕_, _⊖_, _⊗_, real}
 use Rattle.matcher_picks.specs.Candidates.{resultOf}
 use Rattle.matcher_picks.specs.declared.candidates.MatchResult.{MatchResult}
 use Rattle.matcher.specs.Index.{acceptsReference, filled, lentBands, matcherOf}
 use Rattle.matcher.specs.Search.{localSearch, windowOf}
-use Rattle.matcher_replay.specs.Agreement.{answersIn, begin, heardIn, indexDigest, localOf, referenceOf, referenceSound, referenceTimes, rejected, searchedIn, wholeOf}
+use Rattle.matcher_replay.specs.Agreement.{answersIn, begin, heardIn, indexDigest, localOf, referenceOf, referenceSound, referenceTimes, rejected, searchedIn, wholeOf, windowSound, windowTimes}
 use Rattle.matcher_replay.specs.Digests.{withCandidates}
-use Rattle.matcher_replay.specs.Sounds.{referenceValues, timesFrom, windowValues}
 use Rattle.matcher_replay.specs.declared.answers.Answers.{Answers}
 use Rattle.matcher_replay.specs.declared.case.Case.{Case}
 
@@ -50,19 +49,12 @@ module _ (c : Case) (fine coarse fineSquares coarseSquares : List Float) where
           local = (v ∙ ap (λ (r : MatchResult). withCandidates 0 (r .candidates)) l) i;
         }
 
-  -- n times and k values are those of the window
-  pub heard : (n k : ℕ) {times values : List Float} {r : Answers} → n ≡ c .window → k ≡ c .bands * c .window
-      → times ≡ timesFrom begin (c .hop) n → values ≡ windowValues (c .seed) (c .period) (c .window) (c .from) k
+  pub heard : {times values : List Float} {r : Answers} → times ≡ windowTimes c → values ≡ windowSound c
       → r ≡ searchedIn c fine coarse fineSquares coarseSquares times values → r ≡ heardIn c fine coarse fineSquares coarseSquares
   unfolding heardIn
-  heard n k h j t v e =
-      e
-      ∙ (λ i. searchedIn c fine coarse fineSquares coarseSquares (t i) (v i))
-      ∙ (λ i. searchedIn c fine coarse fineSquares coarseSquares (timesFrom begin (c .hop) (h i)) (windowValues (c .seed) (c .period) (c .window) (c .from) (j i)))
+  heard t v e = e ∙ (λ i. searchedIn c fine coarse fineSquares coarseSquares (t i) (v i))
 
-  -- n times and k values are those of the reference
-  pub answered : (n k : ℕ) {times values f g p q : List Float} {accepted : Bool} {r : Answers} → n ≡ c .frames → k ≡ c .bands * c .frames
-      → times ≡ timesFrom zero⁺ (c .hop) n → values ≡ referenceValues (c .seed) (c .period) (c .frames) k
+  pub answered : {times values f g p q : List Float} {accepted : Bool} {r : Answers} → times ≡ referenceTimes c → values ≡ referenceSound c
       → accepted ≡ acceptsReference (c .hop) (c .bands) times values
       → f ≡ filled accepted (matcherOf (c .hop) (c .bands) times values .fine .values) fine
       → g ≡ filled accepted (matcherOf (c .hop) (c .bands) times values .coarse .values) coarse
@@ -70,17 +62,15 @@ module _ (c : Case) (fine coarse fineSquares coarseSquares : List Float) where
       → q ≡ filled accepted (matcherOf (c .hop) (c .bands) times values .coarse .squares) coarseSquares
       → r ≡ cond accepted (heardIn c f g p q) rejected → r ≡ answersIn c fine coarse fineSquares coarseSquares
   unfolding answersIn
-  answered n k {times} {values} {accepted = accepted} h j timed made a ef eg ep eq e =
-      let t : times ≡ referenceTimes c = timed ∙ (λ i. timesFrom zero⁺ (c .hop) (h i)) in
-      let v : values ≡ referenceSound c = made ∙ (λ i. referenceValues (c .seed) (c .period) (c .frames) (j i)) in
+  answered {accepted = accepted} t v a ef eg ep eq e =
       let b = a ∙ (λ i. acceptsReference (c .hop) (c .bands) (t i) (v i)) in
       e
       ∙ (λ i. cond accepted (heardIn c (ef i) (eg i) (ep i) (eq i)) rejected)
       ∙ (λ i.
-        cond (b i)
-        (heardIn c
-        (filled (b i) (matcherOf (c .hop) (c .bands) (t i) (v i) .fine .values) fine)
-        (filled (b i) (matcherOf (c .hop) (c .bands) (t i) (v i) .coarse .values) coarse)
-        (filled (b i) (matcherOf (c .hop) (c .bands) (t i) (v i) .fine .squares) fineSquares)
-        (filled (b i) (matcherOf (c .hop) (c .bands) (t i) (v i) .coarse .squares) coarseSquares))
-        rejected)
+      cond (b i)
+      (heardIn c
+      (filled (b i) (matcherOf (c .hop) (c .bands) (t i) (v i) .fine .values) fine)
+      (filled (b i) (matcherOf (c .hop) (c .bands) (t i) (v i) .coarse .values) coarse)
+      (filled (b i) (matcherOf (c .hop) (c .bands) (t i) (v i) .fine .squares) fineSquares)
+      (filled (b i) (matcherOf (c .hop) (c .bands) (t i) (v i) .coarse .squares) coarseSquares))
+      rejected)

@@ -2,7 +2,7 @@
 use mathlib.Core.Path.{_≡_}
 use mathlib.Core.Bool.{Bool, true, _&&_}
 use Prim.Native.Nat.{ℕ, _+_, _*_, _/_, _≤_, _<_}
-use native.Mathlib.Nat.{mul-le-mul, mul-le-mul-right}
+use native.Mathlib.Nat.{mul-le-mul}
 use native.Mathlib.Omega.{arith}
 use borrow.Author.Tests.{ltb-true, leb-true}
 use Rattle.matcher_bands.specs.Centring.{wideHop}
@@ -54,12 +54,11 @@ limits c h =
 pub record Sizes (b n values energies : ℕ) : Type 0 where
   pub all : b * n ≤ values
   pub sums : b * (n + 1) ≤ energies
-  pub rows : b * n ≤ caseBands * n
 
 sizes : {b n : ℕ} (m : ℕ) → b ≤ caseBands → n ≤ m → Sizes b n (caseBands * m) (caseBands * (m + 1))
 sizes {b} {n} m h k =
     let l : n + 1 ≤ m + 1 = omega arith in
-    record { all = mul-le-mul h k; sums = mul-le-mul h l; rows = mul-le-mul-right n h }
+    record { all = mul-le-mul h k; sums = mul-le-mul h l }
 
 pub record Small (c : Case) : Type 0 where
   pub limit : Limits c

@@ -3,7 +3,7 @@ ghost use Prim.Native.Nat.{_*_};
 ghost use lib.ListN.{length};
 ghost use mathlib.Core.Bool.{cond, true};
 ghost use mathlib.Core.Path.{_≡_};
-ghost use Rattle.matcher_replay.specs.Agreement.{answersIn, answersOf, heardIn, indexDigest, lineBytes, rejected, saysOf, searchedIn};
+ghost use Rattle.matcher_replay.specs.Agreement.{answersOf, heardIn, indexDigest, lineBytes, rejected, saysOf, searchedIn};
 ghost use Rattle.matcher_replay.specs.Cases.{coarseRoom, coarseSquaresRoom, fineRoom, fineSquaresRoom, isSmall, work32Room, work64Room};
 use crate::case::CASE_BANDS;
 use crate::case::CASE_FRAMES;
@@ -59,7 +59,7 @@ pub fn says(line: &[u8], found: Answers) -> bool
                         & (found.local == word_at(line, 13))))))
 }
 
-// What the matcher answers.
+// What the matcher answers. The reference's sound is made for all of an array, and its front lent.
 pub fn answers_to(case: Case) -> Answers
     requires { ⌜ isSmall case ≡ true ⌝ }
     ensures { λ r. ⌜ r ≡ answersOf case ⌝ }
@@ -72,45 +72,19 @@ pub fn answers_to(case: Case) -> Answers
     let mut coarse = [0.0f32; COARSE];
     let mut fine_squares = [0.0f64; FINE_SQUARES];
     let mut coarse_squares = [0.0f64; COARSE_SQUARES];
-    answers_within(
-        case,
-        &mut times[..frames],
-        &mut values[..size],
+    sound::fill_times(&mut times, 0.0, case.hop);
+    sound::fill_reference(&mut values, case.seed, case.period, frames);
+    let filled = fill_index(
         &mut fine,
         &mut coarse,
         &mut fine_squares,
         &mut coarse_squares,
-    )
-}
-
-// The same, with slices for the reference and its index.
-fn answers_within(
-    case: Case,
-    times: &mut [f64],
-    values: &mut [f32],
-    fine: &mut [f32],
-    coarse: &mut [f32],
-    fine_squares: &mut [f64],
-    coarse_squares: &mut [f64],
-) -> Answers
-    requires { ⌜ isSmall case ≡ true ⌝ ∗ ⌜ length (now times) ≡ case .frames ⌝ ∗ ⌜ length (now values) ≡ case .bands * case .frames ⌝ }
-    requires { ⌜ length (now fine) ≡ fineRoom ⌝ ∗ ⌜ length (now coarse) ≡ coarseRoom ⌝ }
-    requires { ⌜ length (now «fine_squares») ≡ fineSquaresRoom ⌝ ∗ ⌜ length (now «coarse_squares») ≡ coarseSquaresRoom ⌝ }
-    ensures { λ r. ⌜ r ≡ answersIn case (now (fine .entry)) (now (coarse .entry)) (now («fine_squares» .entry)) (now («coarse_squares» .entry)) ⌝ }
-{
-    sound::fill_times(times, 0.0, case.hop);
-    sound::fill_reference(values, case.seed, case.period, case.frames);
-    let filled = fill_index(
-        fine,
-        coarse,
-        fine_squares,
-        coarse_squares,
         case.bands,
         case.hop,
-        times,
-        values,
+        &times[..frames],
+        &values[..size],
     );
-    search_in(filled, case, fine, coarse, fine_squares, coarse_squares)
+    search_in(filled, case, &fine, &coarse, &fine_squares, &coarse_squares)
 }
 
 // The window's searches of an index that was filled.
@@ -135,14 +109,16 @@ fn search_in(
     let mut values = [0.0f32; WINDOW];
     let mut work32 = [0.0f32; WORK32];
     let mut work64 = [0.0f64; WORK64];
-    hear_in(
+    sound::fill_times(&mut times, BEGIN, case.hop);
+    sound::fill_window(&mut values, case.seed, case.period, window, case.from);
+    search_within(
         case,
         fine,
         coarse,
         fine_squares,
         coarse_squares,
-        &mut times[..window],
-        &mut values[..size],
+        &times[..window],
+        &values[..size],
         &mut work32,
         &mut work64,
     )
@@ -160,39 +136,6 @@ fn rejected() -> Answers
         local_count: 0,
         local: 0,
     }
-}
-
-// The same, with slices for the window and to work in.
-fn hear_in(
-    case: Case,
-    fine: &[f32],
-    coarse: &[f32],
-    fine_squares: &[f64],
-    coarse_squares: &[f64],
-    times: &mut [f64],
-    values: &mut [f32],
-    work32: &mut [f32],
-    work64: &mut [f64],
-) -> Answers
-    requires { ⌜ isSmall case ≡ true ⌝ ∗ ⌜ length (now fine) ≡ fineRoom ⌝ ∗ ⌜ length (now coarse) ≡ coarseRoom ⌝ }
-    requires { ⌜ length (now «fine_squares») ≡ fineSquaresRoom ⌝ ∗ ⌜ length (now «coarse_squares») ≡ coarseSquaresRoom ⌝ }
-    requires { ⌜ length (now times) ≡ case .window ⌝ ∗ ⌜ length (now values) ≡ case .bands * case .window ⌝ }
-    requires { ⌜ length (now work32) ≡ work32Room ⌝ ∗ ⌜ length (now work64) ≡ work64Room ⌝ }
-    ensures { λ r. ⌜ r ≡ heardIn case (now (fine .entry)) (now (coarse .entry)) (now («fine_squares» .entry)) (now («coarse_squares» .entry)) ⌝ }
-{
-    sound::fill_times(times, BEGIN, case.hop);
-    sound::fill_window(values, case.seed, case.period, case.window, case.from);
-    search_within(
-        case,
-        fine,
-        coarse,
-        fine_squares,
-        coarse_squares,
-        times,
-        values,
-        work32,
-        work64,
-    )
 }
 
 // Both searches.
