@@ -3,21 +3,16 @@ use Prim.Native.Nat.{ℕ, _*_}
 use mathlib.Core.Bool.{Bool, _&&_}
 use mathlib.Core.List.{List}
 use lib.Dec.{eqb}
-use lib.ListN.{drop, take}
-use Rattle.hexadecimal.specs.Hexadecimal.{wordFrom}
-use Rattle.hexadecimal.specs.declared.Word.{Word}
-use Rattle.hexadecimal.specs.declared.Word.the-variants as word
+use Rattle.hexadecimal.specs.Hexadecimal.{spaced, wordAt}
 use Rattle.engine_replay.specs.declared.answers.Agreement.{Agreement}
 use Rattle.engine_replay.specs.declared.answers.Answers.{Answers}
 
--- a malformed word counts as the largest
-unfoldable pub wordOf : Word → ℕ
-wordOf (word.Is n) = n
-wordOf word.Malformed = 18446744073709551615
+-- the words of a line, and its bytes
+abbrev pub lineWords : ℕ
+lineWords = 15
 
--- word k: 16 digits, and a byte after each word
-unfoldable pub wordAt : ℕ → List ℕ → ℕ
-wordAt k line = wordOf (wordFrom 0 (take 16 (drop (k * 17) line)))
+abbrev pub lineBytes : ℕ
+lineBytes = lineWords * spaced
 
 -- the last three words are the answer's number, the state's digest, and the digest of what is shown
 unfoldable pub agreementWith : List ℕ → Answers → Agreement

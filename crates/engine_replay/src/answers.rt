@@ -1,8 +1,8 @@
 // What is answered to a line, and whether the line says the same.
 ghost use lib.ListN.{length};
 ghost use mathlib.Core.Path.{_≡_};
-ghost use Rattle.engine_replay.specs.Lines.{agreementWith, inAll};
-use crate::line::word_at;
+ghost use Rattle.engine_replay.specs.Lines.{agreementWith, inAll, lineBytes};
+use hexadecimal::word_at;
 
 // The answer's number, a digest of the state after it, and one of what it shows: of an opening the
 // four index buffers, of a submission the snapshot (0 where that is refused).
@@ -20,7 +20,7 @@ pub struct Agreement {
 }
 
 pub fn agreement_with(line: &[u8], found: Answers) -> Agreement
-    requires { ⌜ length (now line) ≡ 255 ⌝ }
+    requires { ⌜ length (now line) ≡ lineBytes ⌝ }
     ensures { λ r. ⌜ r ≡ agreementWith (now (line .entry)) found ⌝ }
 {
     Agreement {

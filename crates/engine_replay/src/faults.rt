@@ -7,6 +7,7 @@
 //   12        a time is late by 0.3 hops
 //   13        the window has a band more than the reference
 ghost use Prim.Native.Nat.{_≤_};
+use matcher_spec::limits::BANDS_MOST;
 
 // How much is lent of a buffer of `length` that has to hold `needed`.
 pub fn lent(fault: u64, buffer: u64, needed: usize, length: usize) -> usize {
@@ -36,7 +37,7 @@ pub fn least(n: usize, most: usize) -> usize
 // The bands that there are.
 pub fn made_bands(fault: u64, bands: usize) -> usize {
     if fault == 13 {
-        return bands % 64 + 1;
+        return bands % BANDS_MOST + 1;
     }
     bands
 }
@@ -44,7 +45,7 @@ pub fn made_bands(fault: u64, bands: usize) -> usize {
 // The bands that are said.
 pub fn said_bands(fault: u64, bands: usize) -> usize {
     if fault == 9 {
-        return 65;
+        return BANDS_MOST + 1;
     }
     if fault == 10 {
         return 0;

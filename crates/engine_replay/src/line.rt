@@ -1,37 +1,23 @@
-// The words of a line.
+// The words of a line, as counts and as floats.
 ghost use Prim.Native.Nat.{_<_};
 ghost use lib.ListN.{length};
 ghost use mathlib.Core.Path.{_≡_};
-ghost use Rattle.engine_replay.specs.Lines.{wordAt};
+ghost use Rattle.engine_replay.specs.Lines.{lineBytes, lineWords};
 use engine_layout::values::word_float;
-use hexadecimal::Word;
+use hexadecimal::SPACED;
+use hexadecimal::word_at;
 
-// The bytes of a word with the one after it, and of a line.
-const WORD: usize = 17;
-
-pub const LINE: usize = 255;
-
-// Word k of the line; one that is malformed counts as the largest.
-pub fn word_at(line: &[u8], k: usize) -> u64
-    requires { ⌜ length (now line) ≡ 255 ⌝ ∗ ⌜ k < 15 ⌝ }
-    ensures { λ r. ⌜ r ≡ wordAt k (now (line .entry)) ⌝ }
-{
-    let at = k * WORD;
-    let end = at + 16;
-    match hexadecimal::parse(&line[at..end]) {
-        Word::Is(word) => word,
-        Word::Malformed => 18446744073709551615,
-    }
-}
+// The bytes of a line: 15 words.
+pub const LINE: usize = 15 * SPACED;
 
 pub fn count_at(line: &[u8], k: usize) -> usize
-    requires { ⌜ length (now line) ≡ 255 ⌝ ∗ ⌜ k < 15 ⌝ }
+    requires { ⌜ length (now line) ≡ lineBytes ⌝ ∗ ⌜ k < lineWords ⌝ }
 {
     word_at(line, k) as usize
 }
 
 pub fn float_at(line: &[u8], k: usize) -> f64
-    requires { ⌜ length (now line) ≡ 255 ⌝ ∗ ⌜ k < 15 ⌝ }
+    requires { ⌜ length (now line) ≡ lineBytes ⌝ ∗ ⌜ k < lineWords ⌝ }
 {
     word_float(word_at(line, k))
 }

@@ -12,13 +12,25 @@ mod submission;
 
 ghost use Prim.Native.Nat.{_+_, _≤_};
 ghost use lib.ListN.{length};
+ghost use mathlib.Core.Bool.{cond};
 ghost use mathlib.Core.Path.{_≡_};
+ghost use Rattle.engine_replay.specs.Lines.{agreementWith, inAll, lineBytes};
 use answers::Agreement;
 use answers::Answers;
 use answers::agreement_with;
 use answers::agrees;
+use engine_words::states::STATE_WORDS;
+use hexadecimal::word_at;
 use line::LINE;
-use line::word_at;
+
+// The index of the longest reference that is opened.
+const FINE: usize = opening::VALUES;
+
+const COARSE: usize = opening::BANDS * (opening::FRAMES / 4);
+
+const FINE_ENERGY: usize = opening::BANDS * (opening::FRAMES + 1);
+
+const COARSE_ENERGY: usize = opening::BANDS * (opening::FRAMES / 4 + 1);
 
 // What was replayed, and how many lines differ.
 struct Tally {
@@ -42,11 +54,11 @@ fn main() {
 fn replay(list: &[u8]) -> Tally
     requires { ⌜ length (now list) ≤ 65536 ⌝ }
 {
-    let mut state = [0u64; 106];
-    let mut fine = [0.0f32; 1600];
-    let mut coarse = [0.0f32; 400];
-    let mut fine_energy = [0.0f64; 1604];
-    let mut coarse_energy = [0.0f64; 404];
+    let mut state = [0u64; STATE_WORDS];
+    let mut fine = [0.0f32; FINE];
+    let mut coarse = [0.0f32; COARSE];
+    let mut fine_energy = [0.0f64; FINE_ENERGY];
+    let mut coarse_energy = [0.0f64; COARSE_ENERGY];
     replay_in(
         list,
         &mut state,
@@ -100,7 +112,7 @@ fn replay_in(
 
 // 1 where the line that starts at `at` opens a session, and 0 where it does not.
 fn opens_at(list: &[u8], at: usize) -> usize
-    requires { ⌜ at + 255 ≤ length (now list) ⌝ }
+    requires { ⌜ at + lineBytes ≤ length (now list) ⌝ }
     ensures { λ r. ⌜ r ≤ 1 ⌝ }
 {
     let end = at + LINE;
@@ -112,7 +124,7 @@ fn opens_at(list: &[u8], at: usize) -> usize
 
 // Where the line stands that opened the session of the line at `at`.
 fn session_at(list: &[u8], at: usize, session: usize) -> usize
-    requires { ⌜ at + 255 ≤ length (now list) ⌝ ∗ ⌜ session ≤ at ⌝ }
+    requires { ⌜ at + lineBytes ≤ length (now list) ⌝ ∗ ⌜ session ≤ at ⌝ }
     ensures { λ r. ⌜ r ≤ at ⌝ }
 {
     if opens_at(list, at) == 1 {
@@ -132,7 +144,7 @@ fn differs_at(
     fine_energy: &mut [f64],
     coarse_energy: &mut [f64],
 ) -> usize
-    requires { ⌜ at + 255 ≤ length (now list) ⌝ ∗ ⌜ session ≤ at ⌝ ∗ ⌜ length (now list) ≤ 65536 ⌝ }
+    requires { ⌜ at + lineBytes ≤ length (now list) ⌝ ∗ ⌜ session ≤ at ⌝ ∗ ⌜ length (now list) ≤ 65536 ⌝ }
     ensures { λ r. ⌜ r ≤ 1 ⌝ }
 {
     let end = at + LINE;
@@ -146,11 +158,20 @@ fn differs_at(
         fine_energy,
         coarse_energy,
     );
-    let agreement = agreement_with(&list[at..end], found);
+    differs(&list[at..end], at / LINE + 1, found)
+}
+
+// 1 where the line says other answers, which is written, and 0 where it says these.
+fn differs(line: &[u8], number: usize, found: Answers) -> usize
+    requires { ⌜ length (now line) ≡ lineBytes ⌝ }
+    ensures { λ r. ⌜ r ≡ cond (inAll (agreementWith (now (line .entry)) found)) 0 1 ⌝ }
+    ensures { λ r. ⌜ r ≤ 1 ⌝ }
+{
+    let agreement = agreement_with(line, found);
     if agrees(agreement) {
         return 0;
     }
-    report(at / LINE + 1, agreement);
+    report(number, agreement);
     1
 }
 
@@ -164,7 +185,7 @@ fn answers_to(
     fine_energy: &mut [f64],
     coarse_energy: &mut [f64],
 ) -> Answers
-    requires { ⌜ length (now line) ≡ 255 ⌝ ∗ ⌜ length (now head) ≡ 255 ⌝ }
+    requires { ⌜ length (now line) ≡ lineBytes ⌝ ∗ ⌜ length (now head) ≡ lineBytes ⌝ }
 {
     if word_at(line, 0) == 0 {
         let o = opening::opening_of(line);

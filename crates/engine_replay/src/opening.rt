@@ -2,13 +2,14 @@
 ghost use Prim.Native.Nat.{_<_};
 ghost use lib.ListN.{length};
 ghost use mathlib.Core.Path.{_≡_};
+ghost use Rattle.engine_replay.specs.Lines.{lineBytes};
 use crate::answers::Answers;
 use crate::digest;
 use crate::faults;
 use crate::line::count_at;
 use crate::line::float_at;
-use crate::line::word_at;
 use crate::sound;
+use hexadecimal::word_at;
 use kistovab::calls::kistovab_open;
 use kistovab::sizes::kistovab_fine_length;
 
@@ -17,8 +18,15 @@ const ACTIVE: f64 = -70.0;
 
 const AVERAGE: f64 = -62.0;
 
-// What makes a reference of at most 400 frames and 1,600 values. `fault` and `at` say what is wrong
-// with it, see faults.rt. The index buffers are lent whole: some references need longer ones.
+// The most frames and bands of a reference whose index the program's buffers hold.
+pub const FRAMES: usize = 400;
+
+pub const BANDS: usize = 4;
+
+pub const VALUES: usize = BANDS * FRAMES;
+
+// What makes a reference. `fault` and `at` say what is wrong with it, see faults.rt. The index
+// buffers are lent whole: some references need longer ones.
 pub struct Opening {
     pub seed: u64,
     pub hop: f64,
@@ -34,7 +42,7 @@ pub struct Opening {
 }
 
 pub fn opening_of(line: &[u8]) -> Opening
-    requires { ⌜ length (now line) ≡ 255 ⌝ }
+    requires { ⌜ length (now line) ≡ lineBytes ⌝ }
     ensures { λ r. ⌜ 0 < r .period ⌝ }
 {
     Opening {
@@ -92,8 +100,8 @@ fn open(
 ) -> u32
     requires { ⌜ 0 < o .period ⌝ }
 {
-    let mut times = [0.0f64; 400];
-    let mut values = [0.0f32; 1600];
+    let mut times = [0.0f64; FRAMES];
+    let mut values = [0.0f32; VALUES];
     make_reference(o, &mut times, &mut values);
     let size = kistovab_fine_length(o.frames, o.bands);
     kistovab_open(

@@ -2,16 +2,19 @@
 ghost use Prim.Native.Nat.{_<_};
 ghost use lib.ListN.{length};
 ghost use mathlib.Core.Path.{_≡_};
+ghost use Rattle.engine_replay.specs.Lines.{lineBytes};
 use crate::answers::Answers;
 use crate::digest;
 use crate::faults;
 use crate::line::count_at;
 use crate::line::float_at;
-use crate::line::word_at;
+use crate::opening;
 use crate::opening::Opening;
 use crate::opening::some;
 use crate::sound;
 use crate::sound::Heard;
+use engine_words::snapshots::SNAPSHOT_WORDS;
+use hexadecimal::word_at;
 use kistovab::calls::kistovab_submit;
 use kistovab::sizes::kistovab_coarse_energy_length;
 use kistovab::sizes::kistovab_coarse_length;
@@ -20,8 +23,20 @@ use kistovab::sizes::kistovab_fine_length;
 use kistovab::sizes::kistovab_work32_length;
 use kistovab::sizes::kistovab_work64_length;
 
-// What makes a window of at most 120 frames and 5 bands, and what comes with it. `fault` and `at`
-// say what is wrong with it, see faults.rt.
+// The most frames and bands of a window: one band more than a reference's.
+const FRAMES: usize = 120;
+
+const BANDS: usize = opening::BANDS + 1;
+
+const VALUES: usize = BANDS * FRAMES;
+
+// What a submission of such a window works in.
+const WORK32: usize = 2 * VALUES;
+
+const WORK64: usize = 3 * BANDS * (FRAMES + 1) + opening::FRAMES;
+
+// What makes a window, and what comes with it. `fault` and `at` say what is wrong with it, see
+// faults.rt.
 pub struct Submission {
     pub begin: f64,
     pub frames: usize,
@@ -34,7 +49,7 @@ pub struct Submission {
 }
 
 pub fn submission_of(line: &[u8]) -> Submission
-    requires { ⌜ length (now line) ≡ 255 ⌝ }
+    requires { ⌜ length (now line) ≡ lineBytes ⌝ }
 {
     let heard = Heard {
         from: count_at(line, 3),
@@ -66,9 +81,9 @@ pub fn answers_to(
 ) -> Answers
     requires { ⌜ 0 < o .period ⌝ }
 {
-    let mut times = [0.0f64; 120];
-    let mut energies = [0.0f64; 120];
-    let mut values = [0.0f32; 600];
+    let mut times = [0.0f64; FRAMES];
+    let mut energies = [0.0f64; FRAMES];
+    let mut values = [0.0f32; VALUES];
     make_window(o, s, &mut times, &mut energies, &mut values);
     let bands = faults::made_bands(s.fault, o.bands);
     let size = kistovab_fine_length(s.frames, bands);
@@ -133,13 +148,13 @@ fn submit_within(
     fine_energy: &[f64],
     coarse_energy: &[f64],
 ) -> Answers {
-    let mut work32 = [0.0f32; 1200];
-    let mut work64 = [0.0f64; 2215];
-    let mut snapshot = [0u64; 77];
+    let mut work32 = [0.0f32; WORK32];
+    let mut work64 = [0.0f64; WORK64];
+    let mut snapshot = [0u64; SNAPSHOT_WORDS];
     let narrow = kistovab_work32_length(s.frames, bands);
     let wide = kistovab_work64_length(s.frames, bands, o.frames);
-    let n = faults::least(faults::lent(s.fault, 5, narrow, narrow), 1200);
-    let w = faults::least(faults::lent(s.fault, 6, wide, wide), 2215);
+    let n = faults::least(faults::lent(s.fault, 5, narrow, narrow), WORK32);
+    let w = faults::least(faults::lent(s.fault, 6, wide, wide), WORK64);
     let answer = kistovab_submit(
         state,
         fine,

@@ -3,6 +3,7 @@ use Prim.Native.Nat.{ℕ, _+_, _-_, _*_}
 use mathlib.Core.Bool.{cond}
 use mathlib.Core.List.{List, [], _∷_}
 use lib.Dec.{eqb, ltb}
+use lib.ListN.{drop, take}
 use Rattle.hexadecimal.specs.declared.Word.{Word}
 use Rattle.hexadecimal.specs.declared.Word.the-variants.{Is, Malformed}
 
@@ -14,3 +15,20 @@ digitOf byte = cond (ltb byte 48) 16 (cond (ltb byte 58) (byte - 48) (cond (ltb 
 unfoldable pub wordFrom : ℕ → List ℕ → Word
 wordFrom n [] = Is n
 wordFrom n (byte ∷ bytes) = cond (eqb (digitOf byte) 16) Malformed (wordFrom (n * 16 + digitOf byte) bytes)
+
+-- ---- lines of words
+-- the digits of a word, and its bytes with the one after it
+abbrev pub digits : ℕ
+digits = 16
+
+abbrev pub spaced : ℕ
+spaced = 17
+
+-- a malformed word counts as the largest
+unfoldable pub wordOf : Word → ℕ
+wordOf (Is n) = n
+wordOf Malformed = 0xffffffffffffffff
+
+-- word k of a line
+unfoldable pub wordAt : ℕ → List ℕ → ℕ
+wordAt k line = wordOf (wordFrom 0 (take digits (drop (k * spaced) line)))

@@ -2,28 +2,28 @@
 use mathlib.Core.Path.{_≡_}
 use mathlib.Core.Bool.{Bool, true, _&&_}
 use Prim.Native.Nat.{ℕ, _+_, _*_, _/_, _≤_, _<_}
-use native.Mathlib.Nat.{mul-le-mul, mul-le-mul-right}
+use native.Mathlib.Nat.{mul-le-mul}
 use native.Mathlib.Omega.{arith}
 use borrow.Author.Tests.{ltb-true, leb-true}
 use Rattle.matcher_spec.specs.Centring.{wideHop}
 use Rattle.matcher.proofs.SearchLaws.{and-left, and-right}
-use Rattle.matcher_replay.specs.Cases.{isSmall}
+use Rattle.matcher_replay.specs.Cases.{caseBands, caseFrames, caseWindow, coarseRoom, coarseEnergyRoom, fineRoom, fineEnergyRoom, isSmall, seedsEnd, windowRoom}
 use Rattle.matcher_replay.specs.declared.case.Case.{Case}
 
 both : (a b : Bool) → a && b ≡ true → (a ≡ true) × (b ≡ true)
 both a b h = (and-left a b h, and-right a b h)
 
 pub record Limits (c : Case) : Type 0 where
-  pub seed : c .seed < 65536
+  pub seed : c .seed < seedsEnd
   pub wide : wideHop (c .hop) ≡ true
   pub period : 0 < c .period
   pub some : 0 < c .bands
-  pub bands : c .bands ≤ 4
+  pub bands : c .bands ≤ caseBands
   pub long : 0 < c .frames
-  pub frames : c .frames ≤ 400
+  pub frames : c .frames ≤ caseFrames
   pub heard : 0 < c .window
-  pub window : c .window ≤ 120
-  pub from : c .from ≤ 400
+  pub window : c .window ≤ caseWindow
+  pub from : c .from ≤ caseFrames
 
 limits : (c : Case) → isSmall c ≡ true → Limits c
 unfolding isSmall
@@ -54,22 +54,20 @@ limits c h =
 pub record Sizes (b n values energies : ℕ) : Type 0 where
   pub all : b * n ≤ values
   pub sums : b * (n + 1) ≤ energies
-  pub rows : b * n ≤ 64 * n
 
-sizes : {b n : ℕ} (m : ℕ) → b ≤ 4 → n ≤ m → Sizes b n (4 * m) (4 * (m + 1))
+sizes : {b n : ℕ} (m : ℕ) → b ≤ caseBands → n ≤ m → Sizes b n (caseBands * m) (caseBands * (m + 1))
 sizes {b} {n} m h k =
     let l : n + 1 ≤ m + 1 = omega arith in
-    let w : b ≤ 64 = omega arith in
-    record { all = mul-le-mul h k; sums = mul-le-mul h l; rows = mul-le-mul-right n w }
+    record { all = mul-le-mul h k; sums = mul-le-mul h l }
 
 pub record Small (c : Case) : Type 0 where
   pub limit : Limits c
-  pub fine : Sizes (c .bands) (c .frames) 1600 1604
-  pub coarse : Sizes (c .bands) (c .frames / 4) 400 404
-  pub query : Sizes (c .bands) (c .window) 480 484
+  pub fine : Sizes (c .bands) (c .frames) fineRoom fineEnergyRoom
+  pub coarse : Sizes (c .bands) (c .frames / 4) coarseRoom coarseEnergyRoom
+  pub query : Sizes (c .bands) (c .window) windowRoom (caseBands * (caseWindow + 1))
 
 pub small : (c : Case) → isSmall c ≡ true → Small c
 small c h =
     let l = limits c h in
-    let q : c .frames / 4 ≤ 100 = omega arith in
-    record { limit = l; fine = sizes 400 (l .bands) (l .frames); coarse = sizes 100 (l .bands) q; query = sizes 120 (l .bands) (l .window) }
+    let q : c .frames / 4 ≤ caseFrames / 4 = omega arith in
+    record { limit = l; fine = sizes caseFrames (l .bands) (l .frames); coarse = sizes (caseFrames / 4) (l .bands) q; query = sizes caseWindow (l .bands) (l .window) }

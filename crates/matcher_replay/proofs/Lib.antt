@@ -1,2 +1,4 @@
+pub mod AnswerLaws
 pub mod CaseLaws
+pub mod DigestLaws
 pub mod SoundLaws

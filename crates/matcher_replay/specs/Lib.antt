@@ -1,1 +1,4 @@
 pub mod Cases
+pub mod Sounds
+pub mod Digests
+pub mod Agreement

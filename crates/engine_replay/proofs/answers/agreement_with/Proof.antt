@@ -6,7 +6,8 @@ use lib.Dec.{eqb}
 use borrow.Author.Needs.{needs}
 use Rattle.engine_replay.specs.declared.answers.Agreement.{Agreement}
 use Rattle.engine_replay.specs.declared.answers.Answers.{Answers}
-use Rattle.engine_replay.specs.Lines.{agreementWith, wordAt}
+use Rattle.hexadecimal.specs.Hexadecimal.{wordAt}
+use Rattle.engine_replay.specs.Lines.{agreementWith}
 use Rattle.engine_replay.proofs.answers.agreement_with.Statement.{statement}
 use Rattle.engine_replay.proofs.answers.agreement_with.Tie as tie
 

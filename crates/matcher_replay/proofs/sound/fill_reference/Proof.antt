@@ -1,15 +1,16 @@
--- `matcher_replay::sound::fill_reference` is safe. The loop's invariant: the slice keeps its length. Assumes nothing.
-use mathlib.Core.Path.{_≡_}
-use Prim.Native.Nat.{_-_, _<_, _≤_}
+-- `matcher_replay::sound::fill_reference` meets its contract. The loop's invariant: so many elements are filled by the rule. Assumes nothing.
+use Prim.Native.Nat.{ℕ, _-_, _/_, _%_, _<_}
 use native.Mathlib.Omega.{arith}
 use lib.ListN.{length}
+use Rattle.matcher_replay.specs.Cases.{fineRoom}
+use Rattle.matcher_replay.specs.Sounds.{soundAt}
+use Rattle.numbers_spec.proofs.RowLaws.{Filling, filling-none, filling-more, filling-all}
 use Rattle.matcher_replay.proofs.SoundLaws.{band-of}
-use borrow.Author.Needs.{needs}
 use Rattle.matcher_replay.proofs.sound.fill_reference.Statement.{statement}
 use Rattle.matcher_replay.proofs.sound.fill_reference.Tie as tie
 
 abbrev Inv-loop : tie.InvT-loop
-Inv-loop values₀ seed period n i₀ values i = (i ≤ length values₀) × (length values ≡ length values₀)
+Inv-loop values₀ seed period n i₀ values i = Filling (λ (k : ℕ). soundAt seed period (k / n) (k % n)) values₀ i values
 
 abbrev μ-loop : tie.MeasureT-loop
 μ-loop values₀ seed period n i₀ values i = length values₀ - i
@@ -18,8 +19,11 @@ sound-at-requires : tie.Need-sound-at-requires Inv-loop μ-loop
 sound-at-requires c κs =
     let start = c .before .before .before in
     let p = start .pre in
-    let h : c .before .loop .i < length (start .args .values .now) = omega arith in
-    (omega arith, (p .1 .0, band-of h (p .1 .1 .1) (p .1 .1 .0)))
+    let h : c .before .loop .i < fineRoom = omega arith in
+    (omega arith, (p .1 .0, band-of (c .before .loop .i) (start .args .n) h))
+
+loop-again : tie.Need-loop-again Inv-loop μ-loop
+loop-again c = filling-more (c .before .before .loop .inv) (c .sound-at .ensures) (omega arith)
 
 pub fill-reference-spec : {M : Type 1} → statement M
 fill-reference-spec =
@@ -27,7 +31,7 @@ fill-reference-spec =
     (tie.spec
     Inv-loop
     μ-loop
-    (λ c. omega arith)
+    (λ c. filling-none _ _)
     (λ c. omega arith)
     (λ c. omega arith)
     sound-at-requires
@@ -35,6 +39,6 @@ fill-reference-spec =
     (λ c. omega arith)
     (λ c. omega arith)
     (λ c. omega arith)
-    (λ c. search needs)
-    (λ c. omega arith)
-    (λ c. search needs))
+    loop-again
+    (λ c. c .before .loop .inv .size)
+    (λ c. filling-all (c .before .loop .inv) (omega arith)))

@@ -1,9 +1,10 @@
--- `matcher_replay::sound::value_at` is safe: no product overflows, and the step is a whole number that an f32 has. Assumes nothing.
+-- `matcher_replay::sound::value_at` meets its contract: no product overflows, and the step is a whole number that an f32 has. Assumes nothing.
 use Prim.Native.Nat.{ℕ, _%_}
 use native.Mathlib.Omega.{arith}
 use lib.Dec.{T, le→leb}
 use lib.IntN.{pos}
-use lib.Ieee.{binary32, inFloat}
+use lib.Ieee.{binary32, div, inFloat}
+use Rattle.matcher_replay.specs.Sounds.{valueAt}
 use borrow.Author.Needs.{needs}
 use Rattle.matcher_replay.proofs.sound.value_at.Statement.{statement}
 use Rattle.matcher_replay.proofs.sound.value_at.Tie as tie
@@ -13,6 +14,7 @@ unfolding inFloat
 whole n = le→leb (n % 4096) 16777216 (omega arith)
 
 pub value-at-spec : {M : Type 1} → statement M
+unfolding div valueAt
 value-at-spec =
     tie.close
     (tie.spec

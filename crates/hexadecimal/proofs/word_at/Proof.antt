@@ -1,22 +1,21 @@
--- `engine_replay::line::word_at` meets its contract: the digits of word k stand at k * 17. Assumes nothing.
+-- `hexadecimal::word_at` meets its contract: the digits of word k stand at k * 17. Assumes nothing.
 use mathlib.Core.Path.{_≡_, sym, ap, _∙_}
 use mathlib.Core.List.{List}
 use Prim.Native.Nat.{ℕ, _+_, _-_, _*_}
 use native.Mathlib.Omega.{arith}
 use lib.ListN.{drop, take}
 use borrow.Author.Needs.{needs}
-use Rattle.hexadecimal.specs.Hexadecimal.{wordFrom}
+use Rattle.hexadecimal.specs.Hexadecimal.{digits, spaced, wordAt, wordFrom, wordOf}
 use Rattle.hexadecimal.specs.declared.Word.{Word}
-use Rattle.engine_replay.specs.Lines.{wordAt, wordOf}
-use Rattle.engine_replay.proofs.line.word_at.Statement.{statement}
-use Rattle.engine_replay.proofs.line.word_at.Tie as tie
+use Rattle.hexadecimal.proofs.word_at.Statement.{statement}
+use Rattle.hexadecimal.proofs.word_at.Tie as tie
 
-sixteen : (k : ℕ) → k * 17 + 16 - k * 17 ≡ 16
-sixteen k = omega arith
+width : (k : ℕ) → k * spaced + digits - k * spaced ≡ digits
+width k = omega arith
 
-read : (k : ℕ) (line : List ℕ) (w : Word) → w ≡ wordFrom 0 (take (k * 17 + 16 - k * 17) (drop (k * 17) line)) → wordOf w ≡ wordAt k line
+read : (k : ℕ) (line : List ℕ) (w : Word) → w ≡ wordFrom 0 (take (k * spaced + digits - k * spaced) (drop (k * spaced) line)) → wordOf w ≡ wordAt k line
 unfolding wordAt
-read k line w e = ap wordOf (e ∙ ap (λ (n : ℕ). wordFrom 0 (take n (drop (k * 17) line))) (sixteen k))
+read k line w e = ap wordOf (e ∙ ap (λ (n : ℕ). wordFrom 0 (take n (drop (k * spaced) line))) (width k))
 
 returns : tie.Need-returns
 unfolding wordOf
