@@ -7,7 +7,9 @@ mod matcher;
 mod numbers;
 mod progress;
 mod random;
+mod reached;
 mod sessions;
+mod timeline;
 mod value;
 
 use compare::Effort;

@@ -8,7 +8,7 @@ use borrow.Author.Tests.{ltb-true, leb-true, eqb-true, not-true, not-false}
 use lib.Ieee.{Float}
 use Rattle.matcher_bands.specs.Centring.{wideHop}
 use Rattle.matcher.specs.declared.index.Reference.{Reference}
-use Rattle.compare_exports.specs.MatcherCalls.{fitsLimits, fitsBands, fitsFillLengths, fitsWindow, fitsLocalLengths}
+use Rattle.compare_exports.specs.MatcherCalls.{fitsLimits, fitsBands, fitsFillLengths, fitsWindow, fitsLocalLengths, fitsMargin}
 
 -- How many values, and how many energies, bands of at most m values have.
 pub few : {b k n m : ℕ} → b ≤ k → n ≤ m → (b * n ≤ k * m) × (b * (n + 1) ≤ k * (m + 1))
@@ -103,3 +103,16 @@ room x fine squares bands times values work32 work64 out h =
       index = held _ _ _ _ (r .0);
       numbers = leb-true _ _ (r .1);
     }
+
+-- What a margin asks.
+pub record MarginRoom (numbers count out : ℕ) : Type 0 where
+  pub most : count ≤ 8
+  pub eight : 40 ≤ numbers
+  pub some : 0 < out
+
+pub margin-room : (numbers count out : ℕ) → fitsMargin numbers count out ≡ true → MarginRoom numbers count out
+unfolding fitsMargin
+margin-room numbers count out h =
+    let p = both _ _ h in
+    let q = both _ _ (p .1) in
+    record { most = leb-true _ _ (p .0); eight = leb-true _ _ (q .0); some = ltb-true _ _ (q .1) }

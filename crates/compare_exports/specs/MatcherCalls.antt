@@ -3,10 +3,10 @@ use Prim.Native.Nat.{ℕ, _+_, _*_, _/_}
 use mathlib.Core.Bool.{Bool, cond, _&&_}
 use mathlib.Core.List.{List, [], _∷_, _++_}
 use lib.Dec.{eqb, leb, ltb}
-use lib.ListN.{drop, length}
-use lib.Ieee.{Float, le}
+use lib.ListN.{drop, getD, length, set, take}
+use lib.Ieee.{Float, le, nan}
 use Rattle.numbers.specs.Arithmetic.{one}
-use Rattle.matcher_picks.specs.Candidates.{resultOf}
+use Rattle.matcher_picks.specs.Candidates.{marginOf, resultOf}
 use Rattle.matcher.specs.Index.{acceptsReference, filled, lentBands, lentMatcher, matcherOf}
 use Rattle.matcher.specs.Search.{Window, localSearch, recentMs, wholeSearch}
 use Rattle.matcher_picks.specs.declared.candidates.Candidate.{Candidate}
@@ -108,3 +108,32 @@ foundIn x index w = wholeSearch (lentMatcher x (index .fine) (index .coarse) (in
 -- The local search over the fine half.
 abbrev pub foundNear : Reference → List Float → List Float → Window → Float → Float → List Candidate
 foundNear x fine squares w lower upper = localSearch x (lentBands (x .bands) (x .frames) fine squares) w lower upper
+
+-- ---- the margin
+-- The candidate that five numbers from i on make.
+unfoldable pub candidateAt : List Float → ℕ → Candidate
+candidateAt l i =
+    record {
+      «offset_ms» = getD l i nan;
+      score = getD l (i + 1) nan;
+      «first_half_score» = getD l (i + 2) nan;
+      «second_half_score» = getD l (i + 3) nan;
+      «recent_score» = getD l (i + 4) nan;
+    }
+
+-- The eight candidates whose numbers a search has written.
+unfoldable pub candidatesAt : List Float → List Candidate
+candidatesAt l =
+    candidateAt l 0 ∷ candidateAt l 5 ∷ candidateAt l 10 ∷ candidateAt l 15 ∷ candidateAt l 20 ∷ candidateAt l 25 ∷ candidateAt l 30 ∷ candidateAt l 35 ∷ []
+
+-- At most 8 candidates, the numbers of 8, and room for one number.
+unfoldable pub fitsMargin : ℕ → ℕ → ℕ → Bool
+fitsMargin numbers count out = leb count 8 && (leb 40 numbers && ltb 0 out)
+
+-- 1 where the margin is written.
+abbrev pub marginAnswer : List Float → ℕ → List Float → ℕ
+marginAnswer numbers count out = cond (fitsMargin (length numbers) count (length out)) 1 unfit
+
+-- The margin of the first candidates before the old tail.
+abbrev pub marginWritten : List Float → ℕ → List Float → List Float
+marginWritten numbers count out = cond (fitsMargin (length numbers) count (length out)) (set out 0 (marginOf (take count (candidatesAt numbers)))) out

@@ -4,13 +4,15 @@ ghost use Prim.Native.Nat.{_≤_};
 ghost use lib.ListN.{drop, length};
 ghost use mathlib.Core.List.{_++_};
 ghost use mathlib.Core.Path.{_≡_};
-ghost use Rattle.compare_exports.specs.MatcherCalls.{buffers, counted, fillAnswer, filledBuffers, fitsBands, fitsFillLengths, fitsLimits, fitsLocal, fitsLocalLengths, fitsWhole, fitsWindow, foundIn, foundNear, numbersOf, referenceOf, written};
+ghost use Rattle.compare_exports.specs.MatcherCalls.{buffers, candidateAt, candidatesAt, counted, fillAnswer, filledBuffers, fitsBands, fitsFillLengths, fitsLimits, fitsLocal, fitsLocalLengths, fitsMargin, fitsWhole, fitsWindow, foundIn, foundNear, marginAnswer, marginWritten, numbersOf, referenceOf, written};
 ghost use Rattle.matcher.specs.Search.{windowOf};
 use matcher::index::Reference;
 use matcher::index::fill_index;
 use matcher::search::local_search;
 use matcher::search::whole_search;
+use matcher_picks::candidates::Candidate;
 use matcher_picks::candidates::MatchResult;
+use matcher_picks::candidates::margin;
 
 // The answer where a slice is too short or a number is out of its range.
 const UNFIT: usize = 255;
@@ -279,4 +281,57 @@ pub extern "C" fn matcher_local_search(
     );
     write_candidates(out, found);
     found.count
+}
+
+// The candidate that the numbers from i on make.
+fn candidate_at(numbers: &[f64], i: usize) -> Candidate
+    requires { ⌜ i ≤ 35 ⌝ ∗ ⌜ 40 ≤ length (now numbers) ⌝ }
+    ensures { λ r. ⌜ r ≡ candidateAt (now (numbers .entry)) i ⌝ }
+{
+    Candidate {
+        offset_ms: numbers[i],
+        score: numbers[i + 1],
+        first_half_score: numbers[i + 2],
+        second_half_score: numbers[i + 3],
+        recent_score: numbers[i + 4],
+    }
+}
+
+// The eight candidates whose numbers a search has written.
+fn candidates_at(numbers: &[f64]) -> [Candidate; 8]
+    requires { ⌜ 40 ≤ length (now numbers) ⌝ }
+    ensures { λ r. ⌜ r ≡ candidatesAt (now (numbers .entry)) ⌝ }
+{
+    [
+        candidate_at(numbers, 0),
+        candidate_at(numbers, 5),
+        candidate_at(numbers, 10),
+        candidate_at(numbers, 15),
+        candidate_at(numbers, 20),
+        candidate_at(numbers, 25),
+        candidate_at(numbers, 30),
+        candidate_at(numbers, 35),
+    ]
+}
+
+// Whether a margin can be told: at most 8 candidates, the numbers of 8, and room for one number.
+fn fits_margin(numbers: usize, count: usize, out: usize) -> bool
+    ensures { λ r. ⌜ r ≡ fitsMargin numbers count out ⌝ }
+{
+    (count <= 8) & ((NUMBERS <= numbers) & (out > 0))
+}
+
+// Writes the margin of the first `count` candidates, whose numbers stand as a search writes them, and
+// answers 1.
+#[no_mangle]
+pub extern "C" fn matcher_margin(numbers: &[f64], count: usize, out: &mut [f64]) -> usize
+    ensures { λ r. ⌜ r ≡ marginAnswer (now (numbers .entry)) count (now (out .entry)) ⌝ }
+    ensures { λ _. ⌜ now (out .exit) ≡ marginWritten (now (numbers .entry)) count (now (out .entry)) ⌝ }
+{
+    if !fits_margin(numbers.len(), count, out.len()) {
+        return UNFIT;
+    }
+    let candidates = candidates_at(numbers);
+    out[0] = margin(MatchResult { candidates, count });
+    1
 }

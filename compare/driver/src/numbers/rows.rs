@@ -65,15 +65,17 @@ fn rows<V: Value>(
         }
         x
     };
-    let different = (0..count)
-        .filter(|&n| !is_same(&row(n), of_row, of_one))
-        .count();
+    let (mut compared, mut different) = (0, 0);
+    for n in 0..count {
+        compared += 1;
+        different += u64::from(!is_same(&row(n), of_row, of_one));
+    }
     let refused = refuses(of_row, served(0));
-    println!("{name:<13} {count:>10} rows, {different} differences");
+    println!("{name:<13} {compared:>10} rows, {different} differences");
     if !refused {
         println!("{name} takes a row of another length, or writes to it");
     }
-    different == 0 && refused
+    compared > 0 && different == 0 && refused
 }
 
 fn is_same<V: Value>(x: &[V], of_row: fn(&mut [V], &[V]) -> bool, of_one: fn(V) -> V) -> bool {

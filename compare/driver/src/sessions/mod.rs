@@ -38,7 +38,8 @@ pub fn check() -> bool {
         same
     };
     let sessions = recorded();
-    sessions.iter().filter(|recorded| stands(recorded)).count() == sessions.len()
+    let standing = sessions.iter().filter(|recorded| stands(recorded)).count();
+    standing > 0 && standing == sessions.len()
 }
 
 fn recorded() -> Vec<Recorded> {

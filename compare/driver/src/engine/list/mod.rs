@@ -10,6 +10,7 @@ use super::reading::{self, Handed};
 use super::session::{index_lengths, work_lengths, Opening};
 use super::theirs::Theirs;
 use super::words;
+use crate::reached::remark;
 use crate::sessions::session::{Soundtrack, Window};
 use line::{Head, Step};
 use sonalign::running::{self, Rows};
@@ -244,35 +245,27 @@ impl Replay {
             let count = self.counts.of(kind);
             whole &= count > 0;
             let name = format!("{kind:?}");
-            reached += &format!("  {name:<24} {count:>4}{}\n", missing(count > 0));
+            reached += &format!("  {name:<24} {count:>4}{}\n", remark(count > 0));
         }
         for (bands, &count) in self.bands.iter().enumerate().skip(1) {
             whole &= count > 0;
-            reached += &format!("  {bands} bands {count:>21}{}\n", missing(count > 0));
+            reached += &format!("  {bands} bands {count:>21}{}\n", remark(count > 0));
         }
         for (name, count) in ["locked at once", "locked by a chain"]
             .iter()
             .zip(self.locks)
         {
             whole &= count > 0;
-            reached += &format!("  {name:<24} {count:>4}{}\n", missing(count > 0));
+            reached += &format!("  {name:<24} {count:>4}{}\n", remark(count > 0));
         }
         let long = self.longest == [400, 120];
         whole &= long;
-        reached += &format!("  longest {:?}{}\n", self.longest, missing(long));
+        reached += &format!("  longest {:?}{}\n", self.longest, remark(long));
         List {
             text: self.lines.iter().map(line::text).collect(),
             reached,
             whole,
         }
-    }
-}
-
-fn missing(there: bool) -> &'static str {
-    if there {
-        ""
-    } else {
-        "  NOT REACHED"
     }
 }
 
