@@ -102,7 +102,10 @@ pub fn compare<A: Value, B: Value>(
     println!("{name:<13} {compared:>10} inputs, {differences} differences");
     let whole = families.iter().all(|family| family.count > 0) && compared > 0 && compared == total;
     if !whole {
-        println!("{name}: NOT ALL INPUTS COMPARED: {compared} of {total}, in {} families", families.len());
+        println!(
+            "{name}: NOT ALL INPUTS COMPARED: {compared} of {total}, in {} families",
+            families.len()
+        );
     }
     whole && differences == 0
 }

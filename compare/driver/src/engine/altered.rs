@@ -42,7 +42,10 @@ pub fn check(effort: Effort) -> bool {
         ("computed", read(&tally.searched)),
         ("refused", read(&tally.refused)),
         ("indexes altered", read(&tally.altered)),
-        ("answers and states as the Rust's over the same index", read(&tally.as_the_rust)),
+        (
+            "answers and states as the Rust's over the same index",
+            read(&tally.as_the_rust),
+        ),
     ]);
     differences == 0 && reached
 }

@@ -61,8 +61,14 @@ impl Tally {
         let counts = [
             ("indexes", &self.indexes),
             ("references rejected", &self.rejected),
-            ("references rejected by one step at the tolerance", &self.reference_step),
-            ("windows turned down by one step at the tolerance", &self.window_step),
+            (
+                "references rejected by one step at the tolerance",
+                &self.reference_step,
+            ),
+            (
+                "windows turned down by one step at the tolerance",
+                &self.window_step,
+            ),
             ("whole searches", &self.whole),
             ("whole searches of the largest size", &self.largest),
             ("whole searches without candidates", none),

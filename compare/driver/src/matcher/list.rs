@@ -3,6 +3,7 @@
 use super::case::{Candidate, Frames};
 use super::theirs;
 use crate::family::pattern;
+use crate::recorded;
 use std::fmt::Write;
 
 const HOPS: [f64; 8] = [10.0, 20.0, 20.0, 23.22, 50.0, 250.0, 501.0, 1000.0];
@@ -23,8 +24,14 @@ struct Case {
     reach: f64,
 }
 
+/// Whether the list that stands is the Rust's.
+pub fn check() -> bool {
+    recorded::stands("list of searches", "matcher_replay/stdin", &lines())
+}
+
+/// The last line is wrong.
 pub fn lines() -> String {
-    (0..CASES).map(|number| line(&case(number))).collect()
+    recorded::with_wrong_line((0..CASES).map(|number| line(&case(number))).collect())
 }
 
 /// Sizes at the edges of what is searched, and between.

@@ -40,7 +40,13 @@ pub fn logs_from(first: f32) -> bool {
 pub fn check(effort: Effort) -> bool {
     let root = |n| of_field(n, &(100..=1_900)).abs();
     rows("root_row", effort, ours::root_row, f64::sqrt, root)
-        & rows("ln_1p_row", effort, ours::ln_1p_row, replaced::ln_1p, finite_f32)
+        & rows(
+            "ln_1p_row",
+            effort,
+            ours::ln_1p_row,
+            replaced::ln_1p,
+            finite_f32,
+        )
 }
 
 /// Lengths up to more than two blocks.
