@@ -37,6 +37,15 @@ pub fn with_wrong_line(list: String) -> String {
     }
 }
 
+/// A value from 0 to 64, as sound.rt of the programs makes it: two steps of a generator by products.
+pub fn value_at(seed: u64, n: u64) -> f32 {
+    let modulus = 1 << 31;
+    let first = (n % (1 << 20) + seed * 7_919) % modulus * 1_103_515_245 % modulus;
+    let second = (first / 256 + first * 13) % modulus * 69_069 % modulus;
+    let step = (second / (1 << 17) % 4_096) as f32;
+    step * step / 262_144.0
+}
+
 #[cfg(test)]
 mod tests {
     use super::with_wrong_line;
