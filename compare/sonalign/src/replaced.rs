@@ -2,9 +2,8 @@
 //! 01, "Numbers": each operation rounded once in f64, in the order of its words. Outside the domain
 //! that it gives, they answer NaN.
 //!
-//! They are inlined into the loops of matcher.rs and engine.rs, as in a build that has all in one
-//! codegen unit. Called, they would flatter the port: the conversion at a call's begin keeps half of
-//! a register that the call before wrote last, so each would wait for the one before.
+//! They are inlined into the loops of matcher.rs and engine.rs, as a build in one codegen unit has
+//! them; cargo's default units would call `ln_1p` once a value.
 
 // The document gives decimals and bit patterns, and these are held to it, not to the library's
 // constants.

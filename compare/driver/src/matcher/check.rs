@@ -125,7 +125,7 @@ fn compare(number: u64, case: &Case, tally: &Tally) {
     let Some(theirs) = theirs else {
         add_if(&tally.rejected, true);
         let step = reaches_step_alone(&case.reference.times, case.hop);
-        add_if(&tally.reference_step, step);
+        add_if(&tally.reference_step, step && has_values(&case.reference));
         if !untouched(&index) {
             tally.differs(number, "a buffer of a rejected reference");
         }
@@ -190,7 +190,7 @@ fn compare_searches(
         return;
     }
     let step = reaches_step_alone(&case.window.times, case.hop);
-    add_if(&tally.window_step, step);
+    add_if(&tally.window_step, step && is_searchable(case));
     let whole = index.whole(&mut our_query);
     let expected = theirs.search(&their_query, None);
     add_if(&tally.whole, true);
@@ -224,6 +224,22 @@ fn compare_found(
     if !same(ours::margin(expected), theirs::margin(expected)) {
         tally.differs(number, &format!("the margin of {what}"));
     }
+}
+
+/// Whether the window can be searched if its times are regular.
+fn is_searchable(case: &Case) -> bool {
+    let (reference, window) = (&case.reference, &case.window);
+    let trimmed = 2 * cases::radius(case.hop);
+    window.bands == reference.bands
+        && window.len() > trimmed + 16
+        && window.len() <= trimmed + reference.len()
+        && has_values(window)
+}
+
+/// Whether there are bands, and in them only what they may hold.
+fn has_values(frames: &Frames) -> bool {
+    let valid = |value: &f32| value.is_finite() && *value >= 0.0;
+    frames.bands > 0 && frames.values.iter().all(valid)
 }
 
 /// The port's limit of a window.
