@@ -6,15 +6,12 @@
 mod edits;
 mod list;
 
-use edits::{read, variable, write, File, SOURCE};
+use edits::{read, rerun_if_changed, variable, write, File};
 use list::Mutant;
 use std::path::PathBuf;
 
 fn main() {
-    println!("cargo::rerun-if-env-changed={SOURCE}");
-    for file in ["build.rs", "list.rs", "../sonalign/edits.rs"] {
-        println!("cargo::rerun-if-changed={file}");
-    }
+    rerun_if_changed(&["build.rs", "list.rs", "../sonalign/edits.rs"]);
     let to = PathBuf::from(variable("OUT_DIR"));
     let mut modules = String::new();
     let mut entries = String::new();

@@ -4,13 +4,11 @@
 
 mod edits;
 
-use edits::{read, variable, write, File, SOURCE};
+use edits::{read, rerun_if_changed, variable, write, File};
 use std::path::{Path, PathBuf};
 
 fn main() {
-    println!("cargo::rerun-if-env-changed={SOURCE}");
-    println!("cargo::rerun-if-changed=build.rs");
-    println!("cargo::rerun-if-changed=edits.rs");
+    rerun_if_changed(&["build.rs", "edits.rs"]);
     let to = PathBuf::from(variable("OUT_DIR"));
     make(&to, "types.rs", edits::types);
     make(&to, "matcher.rs", edits::matcher);

@@ -5,7 +5,20 @@
 use std::path::{Path, PathBuf};
 use std::{env, fs, process};
 
-pub const SOURCE: &str = "KISTOVAB_RUST_SRC";
+const SOURCE: &str = "KISTOVAB_RUST_SRC";
+
+/// Of the three files, by `run`.
+const HASH: &str = "KISTOVAB_RUST_HASH";
+
+/// When cargo makes the files anew. Dates alone would not do: a file put back may be an old one.
+pub fn rerun_if_changed(files: &[&str]) {
+    for variable in [SOURCE, HASH] {
+        println!("cargo::rerun-if-env-changed={variable}");
+    }
+    for file in files {
+        println!("cargo::rerun-if-changed={file}");
+    }
+}
 
 pub fn types(file: &mut File) {
     file.replace(1, "use serde::{Deserialize, Serialize};\n", "");

@@ -77,7 +77,7 @@ pub fn compare<A: Value, B: Value>(
 ) -> bool {
     let total = families.iter().map(|family| family.count).sum();
     let progress = Progress::new(name, total);
-    let differences = AtomicU64::new(0);
+    let (compared, differences) = (AtomicU64::new(0), AtomicU64::new(0));
     let blocks = blocks(families);
     let next = AtomicUsize::new(0);
     let work = || {
@@ -89,6 +89,7 @@ pub fn compare<A: Value, B: Value>(
                     print_difference(name, x, left, right);
                 }
             }
+            compared.fetch_add(block.to - block.from, Relaxed);
             progress.advance(block.to - block.from);
         }
     };
@@ -97,9 +98,16 @@ pub fn compare<A: Value, B: Value>(
             scope.spawn(work);
         }
     });
-    let differences = differences.into_inner();
-    println!("{name:<13} {total:>10} inputs, {differences} differences");
-    differences == 0
+    let (compared, differences) = (compared.into_inner(), differences.into_inner());
+    println!("{name:<13} {compared:>10} inputs, {differences} differences");
+    let whole = families.iter().all(|family| family.count > 0) && compared > 0 && compared == total;
+    if !whole {
+        println!(
+            "{name}: NOT ALL INPUTS COMPARED: {compared} of {total}, in {} families",
+            families.len()
+        );
+    }
+    whole && differences == 0
 }
 
 fn print_difference<A: Value, B: Value>(name: &str, input: A, ours: B, theirs: B) {

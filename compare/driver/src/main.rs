@@ -7,7 +7,10 @@ mod matcher;
 mod numbers;
 mod progress;
 mod random;
+mod reached;
+mod recorded;
 mod sessions;
+mod timeline;
 mod value;
 
 use compare::Effort;
@@ -17,7 +20,7 @@ use std::{env, io};
 
 const USAGE: &str = "\
 usage: run [--quick | --bench | --bench-engine | --list | --matcher-list | --engine-list | --sessions | --samples]
-       run --engine [--quick]
+       run (--numbers | --matcher | --records | --engine) [--quick]
        run --session NUMBER
        run --mutants [WORDS OF A NAME]
        run --repeat (whole | local | opening) (ours | replaced | own)";
@@ -28,8 +31,8 @@ fn main() -> ExitCode {
     match words[..] {
         [] => verdict(check(Effort::full())),
         ["--quick"] => verdict(check(Effort::QUICK)),
-        ["--engine"] => verdict(engine::check::check(Effort::full())),
-        ["--engine", "--quick"] => verdict(engine::check::check(Effort::QUICK)),
+        [part] if is_part(part) => verdict(check_part(part, Effort::full())),
+        [part, "--quick"] if is_part(part) => verdict(check_part(part, Effort::QUICK)),
         #[cfg(feature = "mutants")]
         ["--mutants"] => print_mutants(""),
         #[cfg(feature = "mutants")]
@@ -58,14 +61,33 @@ fn usage() -> ExitCode {
     ExitCode::from(2)
 }
 
+const PARTS: [&str; 4] = ["--numbers", "--matcher", "--records", "--engine"];
+
+fn is_part(word: &str) -> bool {
+    PARTS.contains(&word)
+}
+
 /// Every part of the port beside the Rust's.
 fn check(effort: Effort) -> bool {
+    PARTS.map(|part| check_part(part, effort)) == [true; PARTS.len()]
+}
+
+fn check_part(part: &str, effort: Effort) -> bool {
+    match part {
+        "--numbers" => numbers::check::check(effort),
+        "--matcher" => matcher::check::check(effort),
+        "--records" => records(),
+        _ => engine::check::check(effort),
+    }
+}
+
+/// The lists and the session in crates/ beside the Rust's answers.
+fn records() -> bool {
     let parts = [
-        numbers::check::check(effort),
-        matcher::check::check(effort),
-        sessions::check(),
+        numbers::list::check(),
+        matcher::list::check(),
         engine::list::check(),
-        engine::check::check(effort),
+        sessions::check(),
     ];
     parts.into_iter().all(|same| same)
 }

@@ -1,6 +1,9 @@
 //! The functions that stand in for `exp`, `powf` of 10, `log10` and `ln_1p`, written from document
 //! 01, "Numbers": each operation rounded once in f64, in the order of its words. Outside the domain
 //! that it gives, they answer NaN.
+//!
+//! They are inlined into the loops of matcher.rs and engine.rs, as a build in one codegen unit has
+//! them; cargo's default units would call `ln_1p` once a value.
 
 // The document gives decimals and bit patterns, and these are held to it, not to the library's
 // constants.
@@ -15,6 +18,7 @@ const HI: f64 = f64::from_bits(0x3FE6_2E42_FEE0_0000);
 const LO: f64 = f64::from_bits(0x3DEA_39EF_3579_3C76);
 
 /// E(x).
+#[inline]
 pub fn exp(x: f64) -> f64 {
     if x < -690.0 {
         return 0.0;
@@ -33,11 +37,13 @@ pub fn exp(x: f64) -> f64 {
 }
 
 /// 10^y.
+#[inline]
 pub fn ten_to(y: f64) -> f64 {
     exp(y * LN_OF_10)
 }
 
 /// L(v).
+#[inline]
 pub fn ln(v: f64) -> f64 {
     if v == f64::INFINITY {
         return v;
@@ -55,6 +61,7 @@ pub fn ln(v: f64) -> f64 {
     e * HI + (e * LO + twice((m - 1.0) / (m + 1.0)))
 }
 
+#[inline]
 pub fn ln_1p(w: f32) -> f32 {
     let w = f64::from(w);
     let answer = if w <= 0.375 {
@@ -65,11 +72,13 @@ pub fn ln_1p(w: f32) -> f32 {
     answer as f32
 }
 
+#[inline]
 pub fn log10(v: f64) -> f64 {
     ln(v) / LN_OF_10
 }
 
 /// 2×(s×q), the logarithm of (1 + s) / (1 - s).
+#[inline]
 fn twice(s: f64) -> f64 {
     let z = s * s;
     let mut q = 0.0;
@@ -80,6 +89,7 @@ fn twice(s: f64) -> f64 {
 }
 
 /// 2^k for a whole k from -1022 to 1023.
+#[inline]
 fn two_to(k: f64) -> f64 {
     if (-1022.0..=1023.0).contains(&k) {
         f64::from_bits(((k + 1023.0) as u64) << 52)

@@ -8,7 +8,8 @@ use borrow.Author.Tests.{ltb-true, leb-true, eqb-true, not-true, not-false}
 use lib.Ieee.{Float}
 use Rattle.matcher_spec.specs.Centring.{wideHop}
 use Rattle.matcher_spec.specs.declared.types.Reference.{Reference}
-use Rattle.compare_exports.specs.MatcherCalls.{fitsLimits, fitsBands, fitsFillLengths, fitsWindow, fitsLocalLengths}
+use Rattle.compare_exports.specs.MatcherCalls.{fitsLimits, fitsBands, fitsFillLengths, fitsWindow, fitsLocalLengths, fitsMargin}
+use Rattle.matcher_spec.specs.Limits.{framesMost, windowMost, bandsMost, candidatesMost}
 
 -- How many values, and how many energies, bands of at most m values have.
 pub few : {b k n m : ℕ} → b ≤ k → n ≤ m → (b * n ≤ k * m) × (b * (n + 1) ≤ k * (m + 1))
@@ -28,8 +29,8 @@ both false b h = (h, cc)
 -- A reference that fits.
 pub record Limits (bands frames : ℕ) (hop : Float) : Type 0 where
   pub some : 0 < bands
-  pub most : bands ≤ 64
-  pub short : frames ≤ 65535
+  pub most : bands ≤ bandsMost
+  pub short : frames ≤ framesMost
   pub wide : wideHop hop ≡ true
 
 pub limits : (bands frames : ℕ) (hop : Float) → fitsLimits bands frames hop ≡ true → Limits bands frames hop
@@ -68,8 +69,8 @@ fillable hop bands times values fine coarse fineEnergy coarseEnergy h =
 
 -- A window that fits, and the working buffers beside it.
 pub record Windowed (frames bands times values work32 work64 : ℕ) : Type 0 where
-  pub most : bands ≤ 64
-  pub short : times ≤ 1024
+  pub most : bands ≤ bandsMost
+  pub short : times ≤ windowMost
   pub whole : values ≡ bands * times
   pub first : 2 * (bands * times) ≤ work32
   pub second : 3 * (bands * (times + 1)) + frames ≤ work64
@@ -103,3 +104,16 @@ room x fine energy bands times values work32 work64 out h =
       index = held _ _ _ _ (r .0);
       numbers = leb-true _ _ (r .1);
     }
+
+-- What a margin asks.
+pub record MarginRoom (numbers count out : ℕ) : Type 0 where
+  pub most : count ≤ candidatesMost
+  pub eight : 40 ≤ numbers
+  pub some : 0 < out
+
+pub margin-room : (numbers count out : ℕ) → fitsMargin numbers count out ≡ true → MarginRoom numbers count out
+unfolding fitsMargin
+margin-room numbers count out h =
+    let p = both _ _ h in
+    let q = both _ _ (p .1) in
+    record { most = leb-true _ _ (p .0); eight = leb-true _ _ (q .0); some = ltb-true _ _ (q .1) }

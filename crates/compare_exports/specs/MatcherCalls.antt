@@ -3,15 +3,15 @@ use Prim.Native.Nat.{ℕ, _+_, _*_, _/_}
 use mathlib.Core.Bool.{Bool, cond, _&&_}
 use mathlib.Core.List.{List, [], _∷_, _++_}
 use lib.Dec.{eqb, leb, ltb}
-use lib.ListN.{drop, length}
-use lib.Ieee.{Float, le}
-use Rattle.numbers_spec.specs.Arithmetic.{one}
-use Rattle.matcher_spec.specs.Candidates.{resultOf}
+use lib.ListN.{drop, getD, length, set, take}
+use lib.Ieee.{Float, le, nan}
+use Rattle.matcher_spec.specs.Candidates.{marginOf, resultOf}
 use Rattle.matcher_spec.specs.Index.{acceptsReference, filled, lentBands, lentMatcher, matcherOf}
-use Rattle.matcher_spec.specs.Search.{localSearch, recentMs, wholeSearch}
 use Rattle.matcher_spec.specs.Features.{Features}
+use Rattle.matcher_spec.specs.Search.{localSearch, wholeSearch}
 use Rattle.matcher_spec.specs.declared.types.Candidate.{Candidate}
 use Rattle.matcher_spec.specs.declared.types.Reference.{Reference}
+use Rattle.matcher_spec.specs.Limits.{hopLeast, hopMost, framesMost, windowMost, bandsMost}
 
 -- The answer where a slice is too short or a number is out of its range: nothing is written then.
 abbrev pub unfit : ℕ
@@ -19,7 +19,7 @@ unfit = 255
 
 -- A reference within document 01's limits, of at least one band; the hop is from 1 to 1,000.
 unfoldable pub fitsLimits : ℕ → ℕ → Float → Bool
-fitsLimits bands frames hop = ltb 0 bands && (leb bands 64 && (leb frames 65535 && (le one hop && le hop recentMs)))
+fitsLimits bands frames hop = ltb 0 bands && (leb bands bandsMost && (leb frames framesMost && (le hopLeast hop && le hop hopMost)))
 
 -- The lengths of a slice with n values a band and of one with their energies.
 unfoldable pub fitsBands : ℕ → ℕ → ℕ → ℕ → Bool
@@ -28,8 +28,8 @@ fitsBands bands n values energy = leb (bands * n) values && leb (bands * (n + 1)
 -- The lengths of a window's slices and of the working buffers (document 01, refusals 10, 11 and 13).
 unfoldable pub fitsWindow : ℕ → ℕ → ℕ → ℕ → ℕ → ℕ → Bool
 fitsWindow frames bands times values work32 work64 =
-    leb bands 64
-    && (leb times 1024 && (eqb values (bands * times) && (leb (2 * (bands * times)) work32 && leb (3 * (bands * (times + 1)) + frames) work64)))
+    leb bands bandsMost
+    && (leb times windowMost && (eqb values (bands * times) && (leb (2 * (bands * times)) work32 && leb (3 * (bands * (times + 1)) + frames) work64)))
 
 -- ---- filling the index
 pub record Buffers : Type 0 where
@@ -109,3 +109,32 @@ foundIn x index w = wholeSearch (lentMatcher x (index .fine) (index .coarse) (in
 -- The local search over the fine half.
 abbrev pub foundNear : Reference → List Float → List Float → Features → Float → Float → List Candidate
 foundNear x fine energy w lower upper = localSearch x (lentBands (x .bands) (x .frames) fine energy) w lower upper
+
+-- ---- the margin
+-- The candidate that five numbers from i on make.
+unfoldable pub candidateAt : List Float → ℕ → Candidate
+candidateAt l i =
+    record {
+      «offset_ms» = getD l i nan;
+      score = getD l (i + 1) nan;
+      «first_half_score» = getD l (i + 2) nan;
+      «second_half_score» = getD l (i + 3) nan;
+      «recent_score» = getD l (i + 4) nan;
+    }
+
+-- The eight candidates whose numbers a search has written.
+unfoldable pub candidatesAt : List Float → List Candidate
+candidatesAt l =
+    candidateAt l 0 ∷ candidateAt l 5 ∷ candidateAt l 10 ∷ candidateAt l 15 ∷ candidateAt l 20 ∷ candidateAt l 25 ∷ candidateAt l 30 ∷ candidateAt l 35 ∷ []
+
+-- At most 8 candidates, the numbers of 8, and room for one number.
+unfoldable pub fitsMargin : ℕ → ℕ → ℕ → Bool
+fitsMargin numbers count out = leb count 8 && (leb 40 numbers && ltb 0 out)
+
+-- 1 where the margin is written.
+abbrev pub marginAnswer : List Float → ℕ → List Float → ℕ
+marginAnswer numbers count out = cond (fitsMargin (length numbers) count (length out)) 1 unfit
+
+-- The margin of the first candidates before the old tail.
+abbrev pub marginWritten : List Float → ℕ → List Float → List Float
+marginWritten numbers count out = cond (fitsMargin (length numbers) count (length out)) (set out 0 (marginOf (take count (candidatesAt numbers)))) out

@@ -4,11 +4,20 @@ ghost use Prim.Native.Nat.{_≤_};
 ghost use lib.ListN.{drop, length};
 ghost use mathlib.Core.List.{_++_};
 ghost use mathlib.Core.Path.{_≡_};
-ghost use Rattle.compare_exports.specs.MatcherCalls.{buffers, counted, fillAnswer, filledBuffers, fitsBands, fitsFillLengths, fitsLimits, fitsLocal, fitsLocalLengths, fitsWhole, fitsWindow, foundIn, foundNear, numbersOf, referenceOf, written};
+ghost use Rattle.compare_exports.specs.MatcherCalls.{buffers, candidateAt, candidatesAt, counted, fillAnswer, filledBuffers, fitsBands, fitsFillLengths, fitsLimits, fitsLocal, fitsLocalLengths, fitsMargin, fitsWhole, fitsWindow, foundIn, foundNear, marginAnswer, marginWritten, numbersOf, referenceOf, written};
 ghost use Rattle.matcher_spec.specs.Features.{features};
+ghost use Rattle.matcher_spec.specs.Limits.{framesMost, bandsMost};
 use matcher::index::fill_index;
 use matcher::search::local_search;
 use matcher::search::whole_search;
+use matcher_picks::candidates::margin;
+use matcher_spec::limits::BANDS_MOST;
+use matcher_spec::limits::CANDIDATES_MOST;
+use matcher_spec::limits::FRAMES_MOST;
+use matcher_spec::limits::HOP_LEAST;
+use matcher_spec::limits::HOP_MOST;
+use matcher_spec::limits::WINDOW_MOST;
+use matcher_spec::types::Candidate;
 use matcher_spec::types::MatchResult;
 use matcher_spec::types::Reference;
 
@@ -22,12 +31,14 @@ const NUMBERS: usize = 40;
 fn fits_limits(bands: usize, frames: usize, hop: f64) -> bool
     ensures { λ r. ⌜ r ≡ fitsLimits bands frames hop ⌝ }
 {
-    (bands > 0) & ((bands <= 64) & ((frames <= 65535) & ((hop >= 1.0) & (hop <= 1000.0))))
+    (bands > 0)
+        & ((bands <= BANDS_MOST)
+            & ((frames <= FRAMES_MOST) & ((hop >= HOP_LEAST) & (hop <= HOP_MOST))))
 }
 
 // Whether slices of these lengths hold n values a band, and their energies.
 fn fits_bands(bands: usize, n: usize, values: usize, energy: usize) -> bool
-    requires { ⌜ bands ≤ 64 ⌝ ∗ ⌜ n ≤ 65535 ⌝ }
+    requires { ⌜ bands ≤ bandsMost ⌝ ∗ ⌜ n ≤ framesMost ⌝ }
     ensures { λ r. ⌜ r ≡ fitsBands bands n values energy ⌝ }
 {
     (bands * n <= values) & (bands * (n + 1) <= energy)
@@ -42,13 +53,13 @@ fn fits_window(
     work32: usize,
     work64: usize,
 ) -> bool
-    requires { ⌜ frames ≤ 65535 ⌝ }
+    requires { ⌜ frames ≤ framesMost ⌝ }
     ensures { λ r. ⌜ r ≡ fitsWindow frames bands times values work32 work64 ⌝ }
 {
-    if bands > 64 {
+    if bands > BANDS_MOST {
         return false;
     }
-    if times > 1024 {
+    if times > WINDOW_MOST {
         return false;
     }
     (values == bands * times)
@@ -128,7 +139,7 @@ fn write_candidates(out: &mut [f64], result: MatchResult)
 {
     let candidates = result.candidates;
     let mut i = 0usize;
-    while i < 8 {
+    while i < CANDIDATES_MOST {
         let c = candidates[i];
         let at = i * 5;
         out[at] = c.offset_ms;
@@ -279,4 +290,57 @@ pub extern "C" fn matcher_local_search(
     );
     write_candidates(out, found);
     found.count
+}
+
+// The candidate that the numbers from i on make.
+fn candidate_at(numbers: &[f64], i: usize) -> Candidate
+    requires { ⌜ i ≤ 35 ⌝ ∗ ⌜ 40 ≤ length (now numbers) ⌝ }
+    ensures { λ r. ⌜ r ≡ candidateAt (now (numbers .entry)) i ⌝ }
+{
+    Candidate {
+        offset_ms: numbers[i],
+        score: numbers[i + 1],
+        first_half_score: numbers[i + 2],
+        second_half_score: numbers[i + 3],
+        recent_score: numbers[i + 4],
+    }
+}
+
+// The eight candidates whose numbers a search has written.
+fn candidates_at(numbers: &[f64]) -> [Candidate; CANDIDATES_MOST]
+    requires { ⌜ 40 ≤ length (now numbers) ⌝ }
+    ensures { λ r. ⌜ r ≡ candidatesAt (now (numbers .entry)) ⌝ }
+{
+    [
+        candidate_at(numbers, 0),
+        candidate_at(numbers, 5),
+        candidate_at(numbers, 10),
+        candidate_at(numbers, 15),
+        candidate_at(numbers, 20),
+        candidate_at(numbers, 25),
+        candidate_at(numbers, 30),
+        candidate_at(numbers, 35),
+    ]
+}
+
+// Whether a margin can be told: at most 8 candidates, the numbers of 8, and room for one number.
+fn fits_margin(numbers: usize, count: usize, out: usize) -> bool
+    ensures { λ r. ⌜ r ≡ fitsMargin numbers count out ⌝ }
+{
+    (count <= 8) & ((NUMBERS <= numbers) & (out > 0))
+}
+
+// Writes the margin of the first `count` candidates, whose numbers stand as a search writes them, and
+// answers 1.
+#[no_mangle]
+pub extern "C" fn matcher_margin(numbers: &[f64], count: usize, out: &mut [f64]) -> usize
+    ensures { λ r. ⌜ r ≡ marginAnswer (now (numbers .entry)) count (now (out .entry)) ⌝ }
+    ensures { λ _. ⌜ now (out .exit) ≡ marginWritten (now (numbers .entry)) count (now (out .entry)) ⌝ }
+{
+    if !fits_margin(numbers.len(), count, out.len()) {
+        return UNFIT;
+    }
+    let candidates = candidates_at(numbers);
+    out[0] = margin(MatchResult { candidates, count });
+    1
 }

@@ -9,6 +9,7 @@ use super::words::{self, place, MOST_CANDIDATES};
 use crate::compare::Effort;
 use crate::family::pattern;
 use crate::random::Random;
+use crate::reached;
 use sonalign::running::{Kept, Rows};
 use std::sync::atomic::{AtomicU64, Ordering::Relaxed};
 
@@ -17,6 +18,7 @@ const PRINTED: u64 = 20;
 #[derive(Default)]
 struct Tally {
     submissions: AtomicU64,
+    altered: AtomicU64,
     searched: AtomicU64,
     refused: AtomicU64,
     as_the_rust: AtomicU64,
@@ -33,15 +35,19 @@ pub fn check(effort: Effort) -> bool {
         }
     });
     let read = |count: &AtomicU64| count.load(Relaxed);
-    println!(
-        "altered index {} submissions, {} computed, {} refused; {} answers and states as the Rust's over the same index; {} differences",
-        read(&tally.submissions),
-        read(&tally.searched),
-        read(&tally.refused),
-        read(&tally.as_the_rust),
-        read(&tally.differences),
-    );
-    read(&tally.differences) == 0 && read(&tally.searched) > 0 && read(&tally.refused) > 0
+    let differences = read(&tally.differences);
+    println!("altered index {differences} differences");
+    let reached = reached::told(&[
+        ("submissions", read(&tally.submissions)),
+        ("computed", read(&tally.searched)),
+        ("refused", read(&tally.refused)),
+        ("indexes altered", read(&tally.altered)),
+        (
+            "answers and states as the Rust's over the same index",
+            read(&tally.as_the_rust),
+        ),
+    ]);
+    differences == 0 && reached
 }
 
 /// A session over an altered index.
@@ -55,6 +61,7 @@ fn run(number: u64, tally: &Tally) -> Result<(), String> {
     for submission in &session.submissions {
         if random.one_in(4) {
             alter(&mut random, &mut both);
+            tally.altered.fetch_add(1, Relaxed);
         }
         step(&mut both, submission, tally)?;
     }

@@ -47,7 +47,7 @@ fn sessions(effort: Effort) -> bool {
         "engine        {count} sessions, {submissions} submissions, {differences} differences"
     );
     let reached = tally.counts.told();
-    differences == 0 && reached
+    differences == 0 && reached && submissions > 0
 }
 
 fn compare(number: u64, session: &Session, tally: &Tally) {

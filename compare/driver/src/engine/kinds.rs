@@ -4,6 +4,8 @@
 use super::ours::{COMPUTED, REREAD};
 use super::reading::Jump;
 use super::theirs::Seen;
+use crate::reached;
+use crate::timeline::reaches_step_alone;
 use sonalign::replaced::LN_OF_10;
 use sonalign::running::{Kept, Track};
 use sonalign::types::{Snapshot, State, WithholdReason};
@@ -57,6 +59,7 @@ kinds! {
     AmbiguousOffset "AmbiguousOffset",
     LostSignal "LostSignal",
     IndexUnavailable "IndexUnavailable",
+    StepReached "LostSignal by a step off by exactly the tolerance alone",
     InfinitePower "mean power of plus infinity",
     WholeWithoutCandidates "whole search without candidates",
     EightCandidates "eight candidates",
@@ -133,14 +136,11 @@ impl Counts {
 
     /// Prints the table. False where a kind was not reached.
     pub fn told(&self) -> bool {
-        let mut all = true;
-        for &(kind, name) in KINDS {
-            let count = self.of(kind);
-            all &= count > 0;
-            let remark = if count == 0 { "  NOT REACHED" } else { "" };
-            println!("  {name:<62} {count:>9}{remark}");
-        }
-        all
+        let counts: Vec<(&str, u64)> = KINDS
+            .iter()
+            .map(|&(kind, name)| (name, self.of(kind)))
+            .collect();
+        reached::told(&counts)
     }
 
     pub fn note_refused_opening(&self, code: u32) {
@@ -220,6 +220,9 @@ impl Kinds {
         self.states(snapshot);
         self.reasons(snapshot);
         self.places(seen, snapshot);
+        let lost = snapshot.withhold_reason == Some(WithholdReason::LostSignal);
+        let step = reaches_step_alone(&seen.window.times, seen.settings.hop);
+        self.add_if(Kind::StepReached, lost && step);
         let searched = !matches!(
             snapshot.state,
             State::Listening | State::Lost | State::Failed

@@ -10,6 +10,7 @@ use super::{generate, kinds};
 use crate::compare::Effort;
 use crate::family::pattern;
 use crate::random::Random;
+use crate::reached;
 use sonalign::running::{self, Kept, Open, Track};
 use sonalign::types::{
     CandidateDiagnostics, Diagnostics, Estimate, Snapshot, SpectralDiagnostics, State,
@@ -53,12 +54,10 @@ pub fn check(effort: Effort) -> bool {
 fn told(tally: &Tally) -> bool {
     let read = |count: &AtomicU64| count.load(Relaxed);
     let differences = read(&tally.differences);
-    println!(
-        "made states   {} set, {} submissions, {differences} differences",
-        read(&tally.states),
-        read(&tally.submissions),
-    );
-    let reached = [
+    println!("made states   {differences} differences");
+    let counts = [
+        ("states set", &tally.states),
+        ("submissions", &tally.submissions),
         ("refused 7", &tally.refused),
         ("state Confirmed", &tally.confirmed),
         ("confirmed overwritten by a chain's end", &tally.overwritten),
@@ -75,12 +74,8 @@ fn told(tally: &Tally) -> bool {
         ("a made track supported", &tally.supported),
         ("a peak exactly 80 from a made place", &tally.at_80),
     ];
-    for (name, count) in &reached {
-        let count = read(count);
-        let remark = if count == 0 { "  NOT REACHED" } else { "" };
-        println!("  {name:<62} {count:>9}{remark}");
-    }
-    differences == 0 && reached.iter().all(|(_, count)| read(count) > 0)
+    let reached = reached::told(&counts.map(|(name, count)| (name, read(count))));
+    differences == 0 && reached
 }
 
 /// Of another build of the Rust beside the port.

@@ -59,7 +59,8 @@ fn shown(mutants: &[&Mutant], told: &[Told]) -> (String, bool) {
     }
     let count = mutants.len();
     let _ = writeln!(text, "\n{caught} of {count} told, {as_listed} as listed");
-    (text, as_listed == count)
+    // Words that no name has choose nothing, which shows nothing.
+    (text, count > 0 && as_listed == count)
 }
 
 fn by_sessions(open: Open) -> Told {

@@ -89,7 +89,7 @@ pub fn submission_refusal(settings: &Settings, kept: &Kept, handed: &Handed) -> 
         Some(9)
     } else if frames > 1_024 || bands > 64 {
         Some(10)
-    } else if !is_window(window) {
+    } else if !window.is_well_formed() {
         Some(11)
     } else if !window.times.iter().all(near) || !window.energies.iter().all(heard) {
         Some(12)
@@ -98,15 +98,6 @@ pub fn submission_refusal(settings: &Settings, kept: &Kept, handed: &Handed) -> 
     } else {
         None
     }
-}
-
-fn is_window(window: &Window) -> bool {
-    let frames = window.times.len();
-    let valid = |value: &f32| value.is_finite() && *value >= 0.0;
-    window.bands > 0
-        && window.energies.len() == frames
-        && window.values.len() == window.bands * frames
-        && window.values.iter().all(valid)
 }
 
 /// Whether refusal 7 lets the state pass.

@@ -3,6 +3,7 @@
 use super::case::{Case, Frames};
 use crate::family::pattern;
 use crate::random::Random;
+use crate::timeline::reach_step;
 
 const HOPS: [f64; 19] = [
     1.0,
@@ -266,6 +267,7 @@ fn jitter(random: &mut Random, times: &mut [f64], hop: f64) {
                 *time += (random.unit() - 0.5) * hop * 0.045;
             }
         }
+        6 => reach_step(times, hop, at, random.one_in(2)),
         _ => {}
     }
 }

@@ -3,6 +3,8 @@
 use super::case::{Candidate, Case, Frames};
 use super::{cases, ours, theirs};
 use crate::compare::Effort;
+use crate::reached;
+use crate::timeline::reaches_step_alone;
 use crate::value::{same, Value};
 use std::sync::atomic::{AtomicU64, Ordering::Relaxed};
 
@@ -10,17 +12,24 @@ const PRINTED: u64 = 20;
 
 #[derive(Default)]
 struct Tally {
+    differences: AtomicU64,
     indexes: AtomicU64,
     rejected: AtomicU64,
+    /// References and windows whose only fault is a step off by exactly the tolerance.
+    reference_step: AtomicU64,
+    window_step: AtomicU64,
     whole: AtomicU64,
     local: AtomicU64,
-    differences: AtomicU64,
     /// Whole searches by what they found: none, one, several, eight; and candidates that score the
     /// same or stand exactly 750 apart.
     found: [AtomicU64; 4],
-    local_found: AtomicU64,
     ties: AtomicU64,
     at_750: AtomicU64,
+    local_none: AtomicU64,
+    local_found: AtomicU64,
+    largest: AtomicU64,
+    /// Margins of no candidate, one, several.
+    margins: [AtomicU64; 3],
 }
 
 impl Tally {
@@ -29,9 +38,7 @@ impl Tally {
             println!("matcher case {number}: {what} differs");
         }
     }
-}
 
-impl Tally {
     fn note(&self, found: &[Candidate]) {
         let kind = match found.len() {
             0 => 0,
@@ -39,14 +46,53 @@ impl Tally {
             2..8 => 2,
             _ => 3,
         };
-        self.found[kind].fetch_add(1, Relaxed);
+        add_if(&self.found[kind], true);
         for pair in found.windows(2) {
             let [a, b] = [pair[0], pair[1]];
-            self.ties.fetch_add(u64::from(a[1] == b[1]), Relaxed);
-            let apart = (a[0] - b[0]).abs() == 750.0;
-            self.at_750.fetch_add(u64::from(apart), Relaxed);
+            add_if(&self.ties, a[1] == b[1]);
+            add_if(&self.at_750, (a[0] - b[0]).abs() == 750.0);
         }
     }
+
+    /// Prints what was compared. False where anything differs or was not reached.
+    fn told(&self) -> bool {
+        let [none, one, several, eight] = &self.found;
+        let [no_margin, lone_margin, margin] = &self.margins;
+        let counts = [
+            ("indexes", &self.indexes),
+            ("references rejected", &self.rejected),
+            (
+                "references rejected by one step at the tolerance",
+                &self.reference_step,
+            ),
+            (
+                "windows turned down by one step at the tolerance",
+                &self.window_step,
+            ),
+            ("whole searches", &self.whole),
+            ("whole searches of the largest size", &self.largest),
+            ("whole searches without candidates", none),
+            ("whole searches with one candidate", one),
+            ("whole searches with several", several),
+            ("whole searches with eight", eight),
+            ("neighbours in a list that score the same", &self.ties),
+            ("neighbours in a list exactly 750 apart", &self.at_750),
+            ("local searches", &self.local),
+            ("local searches without candidate", &self.local_none),
+            ("local searches with a candidate", &self.local_found),
+            ("margins of no candidate", no_margin),
+            ("margins of one", lone_margin),
+            ("margins of two to eight", margin),
+        ];
+        let differences = self.differences.load(Relaxed);
+        println!("matcher       {differences} differences");
+        let reached = reached::told(&counts.map(|(name, count)| (name, count.load(Relaxed))));
+        differences == 0 && reached
+    }
+}
+
+fn add_if(count: &AtomicU64, reached: bool) {
+    count.fetch_add(u64::from(reached), Relaxed);
 }
 
 pub fn check(effort: Effort) -> bool {
@@ -55,30 +101,16 @@ pub fn check(effort: Effort) -> bool {
     effort.each("matcher", cases, |number| {
         compare(number, &cases::small(number), &tally);
     });
+    let small = tally.whole.load(Relaxed);
     effort.each("matcher", largest, |number| {
         compare(number, &cases::largest(number), &tally);
     });
-    let read = |count: &AtomicU64| count.load(Relaxed);
-    let differences = read(&tally.differences);
-    println!(
-        "matcher       {} indexes, {} references rejected, {} whole and {} local searches, {differences} differences",
-        read(&tally.indexes),
-        read(&tally.rejected),
-        read(&tally.whole),
-        read(&tally.local),
-    );
-    let [none, one, several, eight] = &tally.found;
-    println!(
-        "              whole searches with no candidate {}, one {}, several {}, eight {}; ties {}, exactly 750 apart {}; local with a candidate {}",
-        read(none),
-        read(one),
-        read(several),
-        read(eight),
-        read(&tally.ties),
-        read(&tally.at_750),
-        read(&tally.local_found),
-    );
-    differences == 0
+    let searched = tally.whole.load(Relaxed) - small;
+    tally.largest.store(searched, Relaxed);
+    if !ours::refuses_margins() {
+        tally.differs(cases, "what no margin is told of");
+    }
+    tally.told()
 }
 
 fn compare(number: u64, case: &Case, tally: &Tally) {
@@ -91,13 +123,15 @@ fn compare(number: u64, case: &Case, tally: &Tally) {
         return;
     }
     let Some(theirs) = theirs else {
-        tally.rejected.fetch_add(1, Relaxed);
+        add_if(&tally.rejected, true);
+        let step = reaches_step_alone(&case.reference.times, case.hop);
+        add_if(&tally.reference_step, step && has_values(&case.reference));
         if !untouched(&index) {
             tally.differs(number, "a buffer of a rejected reference");
         }
         return;
     };
-    tally.indexes.fetch_add(1, Relaxed);
+    add_if(&tally.indexes, true);
     compare_index(number, &index, &theirs, tally);
     compare_searches(number, case, &index, &theirs, tail, tally);
 }
@@ -155,25 +189,57 @@ fn compare_searches(
     if !fits(&case.window) {
         return;
     }
+    let step = reaches_step_alone(&case.window.times, case.hop);
+    add_if(&tally.window_step, step && is_searchable(case));
     let whole = index.whole(&mut our_query);
     let expected = theirs.search(&their_query, None);
-    tally.whole.fetch_add(1, Relaxed);
+    add_if(&tally.whole, true);
     tally.note(&expected);
-    if !equal(&whole, &expected) {
-        tally.differs(number, "the whole search");
-    }
+    compare_found(number, "the whole search", &whole, &expected, tally);
     for &(lower, upper) in &case.ranges {
         let local = index.local(&mut our_query, lower, upper);
         let expected = theirs.search(&their_query, Some((lower, upper)));
-        tally.local.fetch_add(1, Relaxed);
-        tally.local_found.fetch_add(expected.len() as u64, Relaxed);
-        if !equal(&local, &expected) {
-            tally.differs(number, "a local search");
-        }
+        add_if(&tally.local, true);
+        add_if(&tally.local_none, expected.is_empty());
+        add_if(&tally.local_found, !expected.is_empty());
+        compare_found(number, "a local search", &local, &expected, tally);
     }
     if !equal(&whole, &index.whole(&mut our_query)) {
         tally.differs(number, "a search over used buffers");
     }
+}
+
+/// Every number of every candidate, and the margin.
+fn compare_found(
+    number: u64,
+    what: &str,
+    found: &[Candidate],
+    expected: &[Candidate],
+    tally: &Tally,
+) {
+    if !equal(found, expected) {
+        tally.differs(number, what);
+    }
+    add_if(&tally.margins[expected.len().min(2)], true);
+    if !same(ours::margin(expected), theirs::margin(expected)) {
+        tally.differs(number, &format!("the margin of {what}"));
+    }
+}
+
+/// Whether the window can be searched if its times are regular.
+fn is_searchable(case: &Case) -> bool {
+    let (reference, window) = (&case.reference, &case.window);
+    let trimmed = 2 * cases::radius(case.hop);
+    window.bands == reference.bands
+        && window.len() > trimmed + 16
+        && window.len() <= trimmed + reference.len()
+        && has_values(window)
+}
+
+/// Whether there are bands, and in them only what they may hold.
+fn has_values(frames: &Frames) -> bool {
+    let valid = |value: &f32| value.is_finite() && *value >= 0.0;
+    frames.bands > 0 && frames.values.iter().all(valid)
 }
 
 /// The port's limit of a window.

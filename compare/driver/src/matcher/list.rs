@@ -3,6 +3,7 @@
 use super::case::{Candidate, Frames};
 use super::theirs;
 use crate::family::pattern;
+use crate::recorded::{self, value_at};
 use std::fmt::Write;
 
 const HOPS: [f64; 8] = [10.0, 20.0, 20.0, 23.22, 50.0, 250.0, 501.0, 1000.0];
@@ -23,8 +24,14 @@ struct Case {
     reach: f64,
 }
 
+/// Whether the list that stands is the Rust's.
+pub fn check() -> bool {
+    recorded::stands("list of searches", "matcher_replay/stdin", &lines())
+}
+
+/// The last line is wrong.
 pub fn lines() -> String {
-    (0..CASES).map(|number| line(&case(number))).collect()
+    recorded::with_wrong_line((0..CASES).map(|number| line(&case(number))).collect())
 }
 
 /// Sizes at the edges of what is searched, and between.
@@ -117,14 +124,6 @@ fn by_frame(bands: usize, frames: usize, value: impl Fn(usize, usize) -> f32) ->
 }
 
 /// As sound.rt of matcher_replay makes it.
-fn value_at(seed: u64, n: u64) -> f32 {
-    let modulus = 1 << 31;
-    let first = (n % (1 << 20) + seed * 7_919) % modulus * 1_103_515_245 % modulus;
-    let second = (first / 256 + first * 13) % modulus * 69_069 % modulus;
-    let step = (second / (1 << 17) % 4_096) as f32;
-    step * step / 262_144.0
-}
-
 fn sound_at(seed: u64, period: usize, band: usize, frame: usize) -> f32 {
     value_at(seed, (band * 8_192 + frame % period % 8_192) as u64)
 }

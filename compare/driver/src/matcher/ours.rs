@@ -69,8 +69,16 @@ unsafe extern "C" {
         out: *mut f64,
         out_len: usize,
     ) -> usize;
+    fn matcher_margin(
+        numbers: *const f64,
+        numbers_len: usize,
+        count: usize,
+        out: *mut f64,
+        out_len: usize,
+    ) -> usize;
 }
 
+const UNFIT: usize = 255;
 const REJECTED: usize = 0;
 const FILLED: usize = 1;
 const MOST: usize = 8;
@@ -230,4 +238,42 @@ fn candidates(count: usize, numbers: &[f64]) -> Vec<Candidate> {
     assert!(rest.iter().all(|x| x.to_bits() == 0), "blank candidates");
     let candidate = |chunk: &[f64]| [chunk[0], chunk[1], chunk[2], chunk[3], chunk[4]];
     listed.chunks_exact(NUMBERS).map(candidate).collect()
+}
+
+/// The margin of candidates as a search hands them out.
+pub fn margin(found: &[Candidate]) -> f64 {
+    let mut numbers = found.concat();
+    numbers.resize(MOST * NUMBERS, 0.0);
+    let mut out = [OLD; 2];
+    let answer = margin_of(&numbers, found.len(), &mut out);
+    assert_eq!(answer, FILLED, "eight candidates at most");
+    assert_eq!(out[1], OLD, "the tail stays");
+    out[0]
+}
+
+/// Whether more candidates than eight, numbers that are too few and no room are answered so, with
+/// nothing written.
+pub fn refuses_margins() -> bool {
+    let numbers = [1.0; MOST * NUMBERS];
+    let unfit = |numbers: &[f64], count, room: usize| {
+        let mut out = [OLD; 1];
+        margin_of(numbers, count, &mut out[..room]) == UNFIT && out == [OLD]
+    };
+    unfit(&numbers, MOST + 1, 1)
+        && unfit(&numbers, usize::MAX, 1)
+        && unfit(&numbers[1..], 1, 1)
+        && unfit(&numbers, 1, 0)
+}
+
+fn margin_of(numbers: &[f64], count: usize, out: &mut [f64]) -> usize {
+    // SAFETY: every pointer goes with its slice's length.
+    unsafe {
+        matcher_margin(
+            numbers.as_ptr(),
+            numbers.len(),
+            count,
+            out.as_mut_ptr(),
+            out.len(),
+        )
+    }
 }

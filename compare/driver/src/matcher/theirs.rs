@@ -66,6 +66,20 @@ pub fn frames(from: &Frames) -> Vec<FeatureFrame> {
     (0..from.len()).map(frame).collect()
 }
 
+pub fn margin(found: &[Candidate]) -> f64 {
+    let candidate = |numbers: &Candidate| sonalign::matcher::Candidate {
+        offset_ms: numbers[0],
+        score: numbers[1],
+        first_half_score: numbers[2],
+        second_half_score: numbers[3],
+        recent_score: numbers[4],
+    };
+    let result = MatchResult {
+        candidates: found.iter().map(candidate).collect(),
+    };
+    result.margin()
+}
+
 fn candidates(result: &MatchResult) -> Vec<Candidate> {
     let numbers = |c: &sonalign::matcher::Candidate| {
         [

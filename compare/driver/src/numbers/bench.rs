@@ -71,7 +71,10 @@ fn in_row<V: Value + Default>(
             of_row(filled, row);
         }));
         theirs = theirs.min(row_by_row(x, |filled, row| {
-            filled.iter_mut().zip(row).for_each(|(y, &x)| *y = of_one(x));
+            filled
+                .iter_mut()
+                .zip(row)
+                .for_each(|(y, &x)| *y = of_one(x));
         }));
     }
     format!(

@@ -1,9 +1,16 @@
 //! The fixed list that a program of the port replays without any Rust.
 
 use super::edges;
+use crate::recorded;
 use sonalign::replaced;
 use std::fmt::Write;
 
+/// Whether the list that stands is the Rust's.
+pub fn check() -> bool {
+    recorded::stands("list of numbers", "numbers_replay/stdin", &lines())
+}
+
+/// The last line is wrong.
 pub fn lines() -> String {
     let mut text = String::new();
     let mut add = |name: &str, inputs: Vec<f64>, theirs: fn(f64) -> f64| {
@@ -22,7 +29,7 @@ pub fn lines() -> String {
     let wide = edges::ln_1p().into_iter().map(f64::from).collect();
     add("ln_1p", wide, |w| f64::from(replaced::ln_1p(w as f32)));
     add("log10", edges::log10(), replaced::log10);
-    text
+    recorded::with_wrong_line(text)
 }
 
 /// Name, input and answer, at fixed places.

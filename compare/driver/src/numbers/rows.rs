@@ -40,7 +40,13 @@ pub fn logs_from(first: f32) -> bool {
 pub fn check(effort: Effort) -> bool {
     let root = |n| of_field(n, &(100..=1_900)).abs();
     rows("root_row", effort, ours::root_row, f64::sqrt, root)
-        & rows("ln_1p_row", effort, ours::ln_1p_row, replaced::ln_1p, finite_f32)
+        & rows(
+            "ln_1p_row",
+            effort,
+            ours::ln_1p_row,
+            replaced::ln_1p,
+            finite_f32,
+        )
 }
 
 /// Lengths up to more than two blocks.
@@ -65,15 +71,17 @@ fn rows<V: Value>(
         }
         x
     };
-    let different = (0..count)
-        .filter(|&n| !is_same(&row(n), of_row, of_one))
-        .count();
+    let (mut compared, mut different) = (0, 0);
+    for n in 0..count {
+        compared += 1;
+        different += u64::from(!is_same(&row(n), of_row, of_one));
+    }
     let refused = refuses(of_row, served(0));
-    println!("{name:<13} {count:>10} rows, {different} differences");
+    println!("{name:<13} {compared:>10} rows, {different} differences");
     if !refused {
         println!("{name} takes a row of another length, or writes to it");
     }
-    different == 0 && refused
+    compared > 0 && different == 0 && refused
 }
 
 fn is_same<V: Value>(x: &[V], of_row: fn(&mut [V], &[V]) -> bool, of_one: fn(V) -> V) -> bool {

@@ -9,8 +9,8 @@ pub mod record;
 mod refusal;
 pub mod session;
 
+use crate::recorded;
 use session::Recorded;
-use std::path::PathBuf;
 use std::{fs, io};
 
 /// A line for each submission, to judge the sessions by.
@@ -20,33 +20,25 @@ pub fn lines() -> String {
 
 /// Writes each session's definitions.
 pub fn write() -> io::Result<()> {
-    let file = |recorded: &Recorded| fs::write(path(recorded), antt::text(recorded));
-    recorded().iter().try_for_each(file)
+    let write = |session: &Recorded| fs::write(recorded::path(&file(session)), antt::text(session));
+    recorded().iter().try_for_each(write)
 }
 
 /// Whether the definitions that stand are the Rust's sessions.
 pub fn check() -> bool {
-    let stands = |recorded: &Recorded| {
-        let same =
-            fs::read_to_string(path(recorded)).is_ok_and(|text| text == antt::text(recorded));
-        let verdict = if same {
-            "as recorded"
-        } else {
-            "NOT AS RECORDED"
-        };
-        println!("session {}: {verdict}", recorded.session.name);
-        same
+    let stands = |session: &Recorded| {
+        let name = format!("session {}", session.session.name);
+        recorded::stands(&name, &file(session), &antt::text(session))
     };
     let sessions = recorded();
-    sessions.iter().filter(|recorded| stands(recorded)).count() == sessions.len()
+    let standing = sessions.iter().filter(|session| stands(session)).count();
+    standing > 0 && standing == sessions.len()
 }
 
 fn recorded() -> Vec<Recorded> {
     cases::all().into_iter().map(record::record).collect()
 }
 
-fn path(recorded: &Recorded) -> PathBuf {
-    let specs = "../../crates/engine_sessions/specs";
-    let folder = PathBuf::from(env!("CARGO_MANIFEST_DIR")).join(specs);
-    folder.join(antt::file_name(recorded))
+fn file(session: &Recorded) -> String {
+    format!("engine_sessions/specs/{}", antt::file_name(session))
 }

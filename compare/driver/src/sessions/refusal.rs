@@ -1,7 +1,7 @@
 //! What a submission to an opened engine is refused with, by document 01's words. The Rust refuses
 //! less, and in other ways.
 
-use super::session::{Lent, Submission, Window};
+use super::session::{Lent, Submission};
 
 const FARTHEST: f64 = 1e12;
 
@@ -18,7 +18,7 @@ pub fn refusal(submission: &Submission) -> Option<u8> {
         Some(9)
     } else if frames > 1_024 || window.bands > 64 {
         Some(10)
-    } else if !well_formed(window) {
+    } else if !window.is_well_formed() {
         Some(11)
     } else if !window.times.iter().all(|time| time.abs() <= FARTHEST)
         || !window.energies.iter().all(|energy| *energy < f64::INFINITY)
@@ -29,13 +29,4 @@ pub fn refusal(submission: &Submission) -> Option<u8> {
     } else {
         None
     }
-}
-
-fn well_formed(window: &Window) -> bool {
-    let frames = window.times.len();
-    let valid = |value: &f32| value.is_finite() && *value >= 0.0;
-    window.bands > 0
-        && window.energies.len() == frames
-        && window.values.len() == window.bands * frames
-        && window.values.iter().all(valid)
 }

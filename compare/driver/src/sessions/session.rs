@@ -20,6 +20,18 @@ pub struct Window {
     pub values: Vec<f32>,
 }
 
+impl Window {
+    /// Refusal 11 of document 01 lets it pass.
+    pub fn is_well_formed(&self) -> bool {
+        let frames = self.times.len();
+        let valid = |value: &f32| value.is_finite() && *value >= 0.0;
+        self.bands > 0
+            && self.energies.len() == frames
+            && self.values.len() == self.bands * frames
+            && self.values.iter().all(valid)
+    }
+}
+
 /// What the port is lent with a window. The Rust has no use for it.
 #[derive(Clone, Copy, Debug, PartialEq)]
 pub enum Lent {

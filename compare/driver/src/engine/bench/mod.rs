@@ -8,9 +8,10 @@ mod stack;
 use super::ours::{self, Index};
 use super::session::{index_lengths, work_lengths, Opening};
 use super::words;
+use crate::matcher::bench::sides::Side;
 use crate::matcher::cases;
 use crate::sessions::session::{Soundtrack, Window};
-use sides::{Operation, Side, Sides, Size, HOP};
+use sides::{Operation, Sides, Size, HOP};
 use sonalign::types::Configuration;
 use std::time::Duration;
 

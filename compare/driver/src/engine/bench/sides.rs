@@ -5,6 +5,7 @@ use super::super::ours::{self, Index, COMPUTED, REREAD};
 use super::super::session::{index_lengths, work_lengths, Opening, Settings};
 use super::super::words;
 use crate::matcher::bench::clock::worked;
+use crate::matcher::bench::sides::Side;
 use crate::matcher::cases;
 use crate::sessions::record::reference_frames;
 use crate::sessions::session::{Soundtrack, Window};
@@ -14,19 +15,6 @@ use std::hint::black_box;
 use std::time::Duration;
 
 pub const HOP: f64 = 20.0;
-
-#[derive(Clone, Copy, PartialEq)]
-pub enum Side {
-    Ours,
-    /// The comparison build, with document 01's functions.
-    Replaced,
-    /// The Rust with its own.
-    Own,
-}
-
-impl Side {
-    pub const ALL: [Side; 3] = [Side::Ours, Side::Replaced, Side::Own];
-}
 
 #[derive(Clone, Copy, PartialEq)]
 pub enum Operation {

@@ -4,6 +4,7 @@ use super::scene::{fewest, Scene};
 use super::sound::{sound, Sound};
 use crate::engine::session::Lent;
 use crate::sessions::session::Window;
+use crate::timeline::reach_step;
 
 /// So many steps.
 pub fn steps(scene: &mut Scene, count: usize) {
@@ -208,11 +209,7 @@ fn off_its_places(scene: &mut Scene) -> Window {
         0 => window.times[at] += hop * 0.05,
         1 => window.times[at] += hop * 0.049_999,
         2 => window.times[at] -= hop * 0.024,
-        5 if at > 0 => {
-            // A step off by the tolerance between places that are within it.
-            window.times[at - 1] -= hop * 0.025;
-            window.times[at] += hop * 0.025;
-        }
+        5 => reach_step(&mut window.times, hop, at, true),
         6 if at > 0 => {
             // A place off by the tolerance behind steps that are within it.
             window.times[at - 1] += hop * 0.025;

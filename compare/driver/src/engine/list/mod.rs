@@ -10,12 +10,12 @@ use super::reading::{self, Handed};
 use super::session::{index_lengths, work_lengths, Opening};
 use super::theirs::Theirs;
 use super::words;
+use crate::reached::remark;
+use crate::recorded;
 use crate::sessions::session::{Soundtrack, Window};
 use line::{Head, Step};
 use sonalign::running::{self, Rows};
 use sonalign::types::Configuration;
-use std::fs;
-use std::path::PathBuf;
 
 /// The program's arrays for the index, and its longest list.
 const ROOM: [usize; 4] = [1_600, 400, 1_604, 404];
@@ -101,18 +101,11 @@ pub fn list() -> List {
 /// Whether the list that stands is the Rust's.
 pub fn check() -> bool {
     let list = list();
-    let stands = fs::read_to_string(path()).is_ok_and(|text| text == list.text);
-    let verdict = match (stands, list.whole) {
-        (true, true) => "as recorded",
-        (false, _) => "NOT AS RECORDED",
-        (true, false) => "DOES NOT REACH ALL",
-    };
-    println!("list of sessions: {verdict}");
+    let stands = recorded::stands("list of sessions", "engine_replay/stdin", &list.text);
+    if !list.whole {
+        println!("list of sessions: NOT ALL REACHED\n{}", list.reached);
+    }
     stands && list.whole
-}
-
-fn path() -> PathBuf {
-    PathBuf::from(env!("CARGO_MANIFEST_DIR")).join("../../crates/engine_replay/stdin")
 }
 
 /// Runs the sessions, and keeps what the program keeps from one to the next.
@@ -244,35 +237,27 @@ impl Replay {
             let count = self.counts.of(kind);
             whole &= count > 0;
             let name = format!("{kind:?}");
-            reached += &format!("  {name:<24} {count:>4}{}\n", missing(count > 0));
+            reached += &format!("  {name:<24} {count:>4}{}\n", remark(count > 0));
         }
         for (bands, &count) in self.bands.iter().enumerate().skip(1) {
             whole &= count > 0;
-            reached += &format!("  {bands} bands {count:>21}{}\n", missing(count > 0));
+            reached += &format!("  {bands} bands {count:>21}{}\n", remark(count > 0));
         }
         for (name, count) in ["locked at once", "locked by a chain"]
             .iter()
             .zip(self.locks)
         {
             whole &= count > 0;
-            reached += &format!("  {name:<24} {count:>4}{}\n", missing(count > 0));
+            reached += &format!("  {name:<24} {count:>4}{}\n", remark(count > 0));
         }
         let long = self.longest == [400, 120];
         whole &= long;
-        reached += &format!("  longest {:?}{}\n", self.longest, missing(long));
+        reached += &format!("  longest {:?}{}\n", self.longest, remark(long));
         List {
             text: self.lines.iter().map(line::text).collect(),
             reached,
             whole,
         }
-    }
-}
-
-fn missing(there: bool) -> &'static str {
-    if there {
-        ""
-    } else {
-        "  NOT REACHED"
     }
 }
 

@@ -1,6 +1,7 @@
 //! References and windows as sound.rt of engine_replay makes them.
 
 use super::line::{Head, Step};
+use crate::recorded::value_at;
 
 pub fn times(start: f64, hop: f64, frames: usize) -> Vec<f64> {
     (0..frames).map(|i| start + i as f64 * hop).collect()
@@ -48,13 +49,4 @@ fn sound_at(seed: u64, period: usize, band: usize, frame: usize) -> f32 {
     let row = band * 8_192;
     let level = value_at(seed, (row + place / 4) as u64);
     level * 0.75 + value_at(seed, (row + 4_096 + place) as u64) * 0.25
-}
-
-/// A value from 0 to 64: two steps of a generator by products.
-fn value_at(seed: u64, n: u64) -> f32 {
-    let modulus = 1 << 31;
-    let first = (n % (1 << 20) + seed * 7_919) % modulus * 1_103_515_245 % modulus;
-    let second = (first / 256 + first * 13) % modulus * 69_069 % modulus;
-    let step = (second / (1 << 17) % 4_096) as f32;
-    step * step / 262_144.0
 }

@@ -9,6 +9,7 @@ mod short;
 mod submissions;
 
 use super::ours::{COMPUTED, NO_AGE, REREAD};
+use crate::reached;
 use lengths::lengths;
 use openings::openings;
 use short::short_words;
@@ -25,11 +26,14 @@ pub fn check() -> bool {
     openings(&mut tally);
     submissions(&mut tally);
     short_words(&mut tally);
-    println!(
-        "refusals      {} calls: {} refused, {} at a limit passed, {} pairs of faults; {} differences",
-        tally.calls, tally.refused, tally.passed, tally.pairs, tally.differences
-    );
-    tally.differences == 0
+    println!("refusals      {} differences", tally.differences);
+    let reached = reached::told(&[
+        ("calls", tally.calls),
+        ("refused", tally.refused),
+        ("passed at a limit", tally.passed),
+        ("pairs of faults", tally.pairs),
+    ]);
+    tally.differences == 0 && reached
 }
 
 #[derive(Default)]

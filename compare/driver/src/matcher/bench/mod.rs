@@ -4,7 +4,7 @@
 pub mod clock;
 mod instructions;
 mod rounds;
-mod sides;
+pub mod sides;
 
 use clock::worked;
 use instructions::Instructions;

@@ -7,7 +7,7 @@ use std::hint::black_box;
 
 const HOP: f64 = 20.0;
 
-#[derive(Clone, Copy)]
+#[derive(Clone, Copy, PartialEq)]
 pub enum Side {
     Ours,
     /// The comparison build, with document 01's functions.
