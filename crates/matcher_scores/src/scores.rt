@@ -212,7 +212,7 @@ fn sum_bands(
 }
 
 // The scores of as many places as `scores` has, from `low` on. The reference's bands have `frames`
-// values each and the query's `count`; `wholes` are the query's whole energies.
+// values each and the query's `count`; `whole` are the query's whole energies.
 pub fn correlations(
     scores: &mut [f64],
     reference: &[f32],
