@@ -28,7 +28,7 @@ use Rattle.engine_spec.specs.declared.types.RecordedMs.{RecordedMs}
 use Rattle.engine_spec.specs.declared.types.Hypothesis.the-variants as hypothesis
 use Rattle.matcher_spec.proofs.CandidateLaws.{listed-result}
 use Rattle.engine_lock.proofs.LockLaws.{coasting, dropped}
-use Rattle.engine_spec.specs.Locking.{Reached, passed, wholeDue, wholeSearched, locallySearched, searched}
+use Rattle.engine_spec.specs.Locking.{Reached, Searched, passed, wholeDue, wholeSearched, locallySearched, searched}
 use Rattle.engine_spec.specs.declared.types.Hypothesis.{Hypothesis}
 use Rattle.engine_spec.specs.declared.types.Lock.{Lock}
 use Rattle.engine_lock.specs.Views.{endingAt}
@@ -58,22 +58,22 @@ whole-ending hop w k pending t [] = refl
 whole-ending hop w k pending t (b ∷ l) = refl
 
 -- a whole search that found these, by the window's endpoint alone
-pub whole-made : (m : Matcher) (hop : Float) (w : Window) (k : Reached) (pending : Hypothesis) (t : tracking.Tracked) {r : MatchResult} → r ≡ resultOf (wholeSearch m (query w))
-    → wholeSearched hop (endingAt (endpointOf w)) k pending t (listed r) ≡ wholeSearched hop w k pending t (wholeSearch m (query w))
-whole-made m hop w k pending t {r} e =
-    whole-ending hop w k pending t (listed r) ∙ ap (λ (x : List Candidate). wholeSearched hop w k pending t x) (listed-result (wholeSearch m (query w)) e)
+pub whole-made : (m : Matcher) (hop : Float) (w : Window) (k : Reached) (pending : Hypothesis) (t : tracking.Tracked) {r : MatchResult} {made : Searched}
+    → made ≡ wholeSearched hop (endingAt (endpointOf w)) k pending t (listed r) → r ≡ resultOf (wholeSearch m (query w)) → made ≡ wholeSearched hop w k pending t (wholeSearch m (query w))
+whole-made m hop w k pending t {r} d e =
+    d ∙ whole-ending hop w k pending t (listed r) ∙ ap (λ (x : List Candidate). wholeSearched hop w k pending t x) (listed-result (wholeSearch m (query w)) e)
 
 -- the searches of a window, by what tracking left and whether a whole search was due
 module _ (m : Matcher) (hop : Float) (w : Window) (k : Reached) (l : Lock) where
   abbrev isDue : tracking.Tracked → Bool
   isDue u = wholeDue (u .supported) (endpointOf w) (l .«last_global_search_ms»)
 
-  pub by-track : {t : tracking.Tracked} {due : Bool} → t ≡ tracked m hop w (l .accepted) → due ≡ isDue t
-      → cond due (wholeSearched hop w k (l .pending) t (wholeSearch m (query w))) (locallySearched k l t) ≡ searched m hop w k l
+  pub by-track : {t : tracking.Tracked} {due : Bool} {made : Searched} → made ≡ cond due (wholeSearched hop w k (l .pending) t (wholeSearch m (query w))) (locallySearched k l t)
+      → t ≡ tracked m hop w (l .accepted) → due ≡ isDue t → made ≡ searched m hop w k l
   unfolding searched
-  by-track {due = due} e d =
+  by-track {due = due} f e d =
       let q : due ≡ isDue (tracked m hop w (l .accepted)) = d ∙ ap isDue e in
-      (λ i. cond (q i) (wholeSearched hop w k (l .pending) (e i) (wholeSearch m (query w))) (locallySearched k l (e i)))
+      f ∙ (λ i. cond (q i) (wholeSearched hop w k (l .pending) (e i) (wholeSearch m (query w))) (locallySearched k l (e i)))
 
 -- without a track that may coast
 pub untracked : (m : Matcher) (hop : Float) (w : Window) (accepted : Hypothesis) {now : RecordedMs} {r : Bool} → evidence hop w ≡ now
@@ -93,6 +93,7 @@ pub filled-of : {x y : Reference} {w : Features} {filled : Bool} {work32 work64 
 filled-of {w = w} {filled} {work32} {work64} e f = subst (λ (z : Reference). FilledQuery z w filled work32 work64) e f
 
 module _ (offset : Float) (first last : RecordedMs) (correlation : Float) (now : RecordedMs) (m : Matcher) (hop : Float) (w : Window) (e : evidence hop w ≡ now) where
-  pub coasted : {r : MatchResult} → r ≡ resultOf (localSearch (m .reference) (m .fine) (query w) (offset ⊖ localMs) (offset ⊕ localMs)) → mayCoast now last ≡ true
-      → followed offset first last correlation now (listed r) ≡ tracked m hop w (hypothesis.Held offset first last correlation)
-  coasted f h = ap (λ (x : List Candidate). followed offset first last correlation now x) (listed-result (localSearch (m .reference) (m .fine) (query w) (offset ⊖ localMs) (offset ⊕ localMs)) f) ∙ coasting offset first last correlation now m hop w e h
+  pub coasted : {r : MatchResult} {made : tracking.Tracked} → made ≡ followed offset first last correlation now (listed r)
+      → r ≡ resultOf (localSearch (m .reference) (m .fine) (query w) (offset ⊖ localMs) (offset ⊕ localMs)) → mayCoast now last ≡ true
+      → made ≡ tracked m hop w (hypothesis.Held offset first last correlation)
+  coasted d f h = d ∙ ap (λ (x : List Candidate). followed offset first last correlation now x) (listed-result (localSearch (m .reference) (m .fine) (query w) (offset ⊖ localMs) (offset ⊕ localMs)) f) ∙ coasting offset first last correlation now m hop w e h

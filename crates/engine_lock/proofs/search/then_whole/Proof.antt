@@ -41,7 +41,7 @@ returns-2 c =
     let w = window (a .bands) (a .times .now) (a .energies .now) (a .values .now) in
     let found = c .before .before .before .before .before .whole-found .ensures in
     let done = c .whole-searched .ensures in (
-      rw (not-false (a .due) (c .before .before .before .before .before .before .before .before .before .before .if1 .left)) (done .0 ∙ whole-made m (s .«hop_ms») w (reachedIn (a .reached)) (a .lock .pending) (trackedIn (a .t)) (rw (c .before .before .before .before .before .before .before .before .reference-of .ensures) at (found .0))),
+      rw (not-false (a .due) (c .before .before .before .before .before .before .before .before .before .before .if1 .left)) (whole-made m (s .«hop_ms») w (reachedIn (a .reached)) (a .lock .pending) (trackedIn (a .t)) (done .0) (rw (c .before .before .before .before .before .before .before .before .reference-of .ensures) at (found .0))),
       rw (done .1) (found .1),
     )
 

@@ -61,7 +61,7 @@ returns-3 c =
     let x = c .before .before .before .before .before .reference-of .ensures in
     let found = c .before .before .before .local-found .ensures in (
       rw (c .before .before .before .before .before .before .before .before .before .accepted .given .1)
-          (c .followed .ensures .0 ∙ coasted _ _ _ _ _ m (s .«hop_ms») w e (rw x at (found .0)) (sym (c .before .before .before .before .before .before .before .may-coast .ensures) ∙ not-false _ (c .before .before .before .before .before .before .if1 .left))),
+          (coasted _ _ _ _ _ m (s .«hop_ms») w e (c .followed .ensures .0) (rw x at (found .0)) (sym (c .before .before .before .before .before .before .before .may-coast .ensures) ∙ not-false _ (c .before .before .before .before .before .before .if1 .left))),
       (rw (c .followed .ensures .1) (found .1 .0), filled-of x (found .1 .1)),
     )
 

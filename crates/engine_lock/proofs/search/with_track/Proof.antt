@@ -41,7 +41,7 @@ returns c =
     let m = matcherIn s (lent (a .fine .now) (a .coarse .now) (a .fine-energy .now) (a .coarse-energy .now)) in
     let w = window (a .bands) (a .times .now) (a .energies .now) (a .values .now) in
     let done = c .before .before .before .before .then-whole .ensures in
-    (done .0 ∙ by-track m (s .«hop_ms») w (reachedIn (a .reached)) (a .lock) (c .before .before .before .before .before .before .before .before .before .before .tracked .ensures .0) (c .before .before .before .before .before .before .before .is-whole-due .ensures), done .1)
+    (by-track m (s .«hop_ms») w (reachedIn (a .reached)) (a .lock) (done .0) (c .before .before .before .before .before .before .before .before .before .before .tracked .ensures .0) (c .before .before .before .before .before .before .before .is-whole-due .ensures), done .1)
 
 pub with-track-spec : {M : Type 1} → statement M
 with-track-spec =

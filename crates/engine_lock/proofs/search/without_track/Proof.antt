@@ -41,7 +41,7 @@ returns c =
     let none = c .before .before .before .before .before .before .before .unsupported .ensures .0 ∙ ap (λ (l : List Candidate). unsupported hypothesis.Absent l) (listed-result [] (c .before .before .before .before .before .before .before .before .nothing-found .ensures)) in
     let due = c .before .before .before .before .before .before .before .before .before .before .before .before .before .before .before .before .before .is-whole-due .ensures ∙ sym (ap (λ (u : tracking.Tracked). wholeDue (u .supported) (endpointOf w) (a .lock .«last_global_search_ms»)) none) in
     let done = c .before .before .before .before .then-whole .ensures in
-    (done .0 ∙ by-track m (s .«hop_ms») w (reachedIn (a .reached)) (a .lock) (none ∙ start .pre .1 .1) due, done .1)
+    (by-track m (s .«hop_ms») w (reachedIn (a .reached)) (a .lock) (done .0) (none ∙ start .pre .1 .1) due, done .1)
 
 pub without-track-spec : {M : Type 1} → statement M
 without-track-spec =
