@@ -11,7 +11,7 @@ ghost use Prim.Native.Nat.{_≤_};
 ghost use lib.ListN.{drop, length};
 ghost use mathlib.Core.Bool.{cond};
 ghost use mathlib.Core.Path.{_≡_};
-ghost use Rattle.matcher_replay.specs.Agreement.{agreesOf, differing, firstAgrees, lineBytes, lines};
+ghost use Rattle.matcher_replay.specs.Agreement.{agreesOf, differing, firstAgrees, lineBytes, lines, listMost};
 
 // The bytes of a line.
 const LINE: usize = 14 * hexadecimal::SPACED;
@@ -28,7 +28,7 @@ fn main() {
 
 // Writes the number of each line that differs, and answers how many do.
 fn replay(list: &[u8]) -> usize
-    requires { ⌜ length (now list) ≤ 65536 ⌝ }
+    requires { ⌜ length (now list) ≤ listMost ⌝ }
     ensures { λ r. ⌜ r ≡ differing (lines (now (list .entry))) (now (list .entry)) ⌝ }
 {
     let mut at = 0usize;

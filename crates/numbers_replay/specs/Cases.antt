@@ -1,5 +1,5 @@
 -- What a line of the list says, and whether the crate `numbers` agrees with it. Definitions only.
-use Prim.Native.Nat.{ℕ, zero, suc, _+_, _/_}
+use Prim.Native.Nat.{ℕ, zero, suc, _+_, _-_, _/_}
 use mathlib.Core.Bool.{Bool, true, false, not, _&&_, cond}
 use mathlib.Core.List.{List, [], _∷_}
 use lib.Dec.{eqb, ltb}
@@ -114,15 +114,23 @@ agreesOf read.Malformed = false
 agreesOf (read.Whole f input answer) = eqb (toBits binary64 (replyOf f (ofBits binary64 input))) answer
 
 -- ---- the list
+-- the bytes of a line: a name of six, two words of 16 digits, and a byte after each
+abbrev pub lineBytes : ℕ
+lineBytes = 41
+
+-- the bytes of a list, at most: as many as the program reads
+abbrev pub listMost : ℕ
+listMost = 65536
+
 -- the first line of what is left is whole and agrees
 unfoldable pub firstAgrees : List ℕ → Bool
-firstAgrees list = cond (ltb (length list) 41) false (agreesOf (readOf (take 41 list)))
+firstAgrees list = cond (ltb (length list) lineBytes) false (agreesOf (readOf (take lineBytes list)))
 
 -- the number of lines, one that is cut off at the end included
 abbrev pub lines : List ℕ → ℕ
-lines list = (length list + 40) / 41
+lines list = (length list + (lineBytes - 1)) / lineBytes
 
 -- how many of the first n lines do not agree
 unfoldable pub differing : ℕ → List ℕ → ℕ
 differing zero list = 0
-differing (suc n) list = cond (firstAgrees list) 0 1 + differing n (drop 41 list)
+differing (suc n) list = cond (firstAgrees list) 0 1 + differing n (drop lineBytes list)

@@ -1,7 +1,7 @@
 // A line of the list, taken apart.
 ghost use lib.ListN.{length};
 ghost use mathlib.Core.Path.{_≡_};
-ghost use Rattle.numbers_replay.specs.Cases.{functionOf, readOf, sameBytes};
+ghost use Rattle.numbers_replay.specs.Cases.{functionOf, lineBytes, readOf, sameBytes};
 use hexadecimal::Word;
 
 // The functions of the crate `numbers` that the list names.
@@ -33,9 +33,9 @@ pub enum Read {
     Malformed,
 }
 
-// What a line of 41 bytes says.
+// What a line says.
 pub fn parse(line: &[u8]) -> Read
-    requires { ⌜ length (now line) ≡ 41 ⌝ }
+    requires { ⌜ length (now line) ≡ lineBytes ⌝ }
     ensures { λ r. ⌜ r ≡ readOf (now (line .entry)) ⌝ }
 {
     let parted = (line[6] == b' ') & (line[23] == b' ') & (line[40] == b'\n');

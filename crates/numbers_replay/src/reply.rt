@@ -3,7 +3,7 @@ ghost use lib.Dec.{eqb};
 ghost use lib.Ieee.{binary64, ofBits, toBits};
 ghost use lib.ListN.{length};
 ghost use mathlib.Core.Path.{_≡_};
-ghost use Rattle.numbers_replay.specs.Cases.{agreesOf, readOf, replyOf};
+ghost use Rattle.numbers_replay.specs.Cases.{agreesOf, lineBytes, readOf, replyOf};
 use crate::line;
 use crate::line::Function;
 use crate::line::Read;
@@ -21,7 +21,7 @@ use numbers::whole::round;
 
 // Whether a line is well-formed and the crate's answer is the line's, bit for bit.
 pub fn agrees(line: &[u8]) -> bool
-    requires { ⌜ length (now line) ≡ 41 ⌝ }
+    requires { ⌜ length (now line) ≡ lineBytes ⌝ }
     ensures { λ r. ⌜ r ≡ agreesOf (readOf (now (line .entry))) ⌝ }
 {
     match line::parse(line) {

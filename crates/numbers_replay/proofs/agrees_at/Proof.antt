@@ -4,12 +4,12 @@ use Prim.Native.Nat.{ℕ, _+_, _-_}
 use native.Mathlib.Omega.{arith}
 use lib.ListN.{length-drop}
 use borrow.Author.Tests.{le-ltb, lt-ltb}
-use Rattle.numbers_replay.specs.Cases.{firstAgrees}
+use Rattle.numbers_replay.specs.Cases.{firstAgrees, lineBytes}
 use borrow.Author.Needs.{needs}
 use Rattle.numbers_replay.proofs.agrees_at.Statement.{statement}
 use Rattle.numbers_replay.proofs.agrees_at.Tie as tie
 
-back : (a : ℕ) → a + 41 - a ≡ 41
+back : (a : ℕ) → a + lineBytes - a ≡ lineBytes
 back a = omega arith
 
 returns : tie.Need-returns

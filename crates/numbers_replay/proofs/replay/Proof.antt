@@ -6,20 +6,20 @@ use Prim.Native.Nat.{ℕ, suc, _+_, _-_, _/_, _≤_, _<_}
 use native.Mathlib.Omega.{arith}
 use lib.ListN.{length, drop, length-drop, drop-of-length-le}
 use lib.Seq.{drop-drop}
-use Rattle.numbers_replay.specs.Cases.{differing, firstAgrees, lines}
+use Rattle.numbers_replay.specs.Cases.{differing, firstAgrees, lineBytes, lines}
 use Rattle.numbers_replay.proofs.replay.Statement.{statement}
 use Rattle.numbers_replay.proofs.replay.Tie as tie
 
-step : (n : ℕ) → 0 < n → (n + 40) / 41 ≡ suc ((n - 41 + 40) / 41)
+step : (n : ℕ) → 0 < n → (n + (lineBytes - 1)) / lineBytes ≡ suc ((n - lineBytes + (lineBytes - 1)) / lineBytes)
 step n h = omega arith
 
 -- the first line, and the rest
-one-more : (l : List ℕ) → 0 < length l → differing (lines l) l ≡ cond (firstAgrees l) 0 1 + differing (lines (drop 41 l)) (drop 41 l)
+one-more : (l : List ℕ) → 0 < length l → differing (lines l) l ≡ cond (firstAgrees l) 0 1 + differing (lines (drop lineBytes l)) (drop lineBytes l)
 unfolding differing
 one-more l h = rw (step (length l) h, length-drop)
 
-further : (l : List ℕ) (at : ℕ) → at < length l → differing (lines (drop at l)) (drop at l) ≡ cond (firstAgrees (drop at l)) 0 1 + differing (lines (drop (at + 41) l)) (drop (at + 41) l)
-further l at h = rw (← drop-drop 41 at l) (one-more (drop at l) (simp length-drop (omega arith)))
+further : (l : List ℕ) (at : ℕ) → at < length l → differing (lines (drop at l)) (drop at l) ≡ cond (firstAgrees (drop at l)) 0 1 + differing (lines (drop (at + lineBytes) l)) (drop (at + lineBytes) l)
+further l at h = rw (← drop-drop lineBytes at l) (one-more (drop at l) (simp length-drop (omega arith)))
 
 none-left : (l : List ℕ) (at : ℕ) → length l ≤ at → differing (lines (drop at l)) (drop at l) ≡ 0
 unfolding differing
@@ -33,10 +33,10 @@ ended : (d r t : ℕ) → d + r ≡ t → r ≡ 0 → d ≡ t
 ended d r t e z = omega arith
 
 abbrev Inv-loop : tie.InvT-loop
-Inv-loop list at₀ differ₀ at differ = (differ ≤ at) × (at < length list + 41) × (differ + differing (lines (drop at list)) (drop at list) ≡ differing (lines list) list)
+Inv-loop list at₀ differ₀ at differ = (differ ≤ at) × (at < length list + lineBytes) × (differ + differing (lines (drop at list)) (drop at list) ≡ differing (lines list) list)
 
 abbrev μ-loop : tie.MeasureT-loop
-μ-loop list at₀ differ₀ at differ = length list + 41 - at
+μ-loop list at₀ differ₀ at differ = length list + lineBytes - at
 
 loop-holds : tie.Need-loop-holds Inv-loop μ-loop
 loop-holds c = (omega arith, omega arith, omega arith)
