@@ -1,6 +1,4 @@
 -- `engine_refusals::handed::opening_refusal` meets its contract. Assumes nothing.
-use native.Mathlib.Nat.{le-trans}
-use lib.Dec.{lit≤}
 use lib.ListN.{length}
 use mathlib.Core.Path.{sym, _∙_}
 use borrow.Author.Tests.{not-true, not-false, eq-eqb, ne-eqb}
@@ -43,7 +41,7 @@ index-fits-requires c κs =
     let at = c .before .before .before in
     let start = at .before .before .before .before .before .before .before .before .before .before .before .before in
     let k = counted (length (start .args .times .now)) (start .args .bands) (sym (at .before .are-counts .ensures) ∙ not-false (at .before .are-counts .result) (at .if3 .left)) in
-    (k .frames, le-trans (k .bands) (lit≤ tt))
+    (omega (arith, k .frames), omega (arith, k .bands))
 
 returns-6 : tie.Need-returns-6
 unfolding openingRefusal
