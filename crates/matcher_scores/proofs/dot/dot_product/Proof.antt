@@ -1,12 +1,12 @@
--- `matcher_scores::scores::dot_product` meets its contract. The first loop's invariant: each lane is what `lane` says after k chunks. The second's: the sum is what `onward` says of the products passed. Assumes nothing.
+-- `matcher_scores::dot::dot_product` meets its contract. The first loop's invariant: each lane is what `lane` says after k chunks. The second's: the sum is what `onward` says of the products passed. Assumes nothing.
 use mathlib.Core.Path.{_≡_, refl, ap, _∙_}
 use Prim.Native.Nat.{_+_, _-_, _*_, _/_, _≤_}
 use native.Mathlib.Omega.{arith}
 use lib.ListN.{length}
 use Rattle.matcher_spec.specs.Scores.{product, lane, lanes, onward, dot}
 use Rattle.matcher_scores.proofs.ScoreLaws.{lane-more, onward-none, onward-more}
-use Rattle.matcher_scores.proofs.scores.dot_product.Statement.{statement}
-use Rattle.matcher_scores.proofs.scores.dot_product.Tie as tie
+use Rattle.matcher_scores.proofs.dot.dot_product.Statement.{statement}
+use Rattle.matcher_scores.proofs.dot.dot_product.Tie as tie
 
 abbrev Inv-loop : tie.InvT-loop
 Inv-loop left right n chunks s0₀ s1₀ s2₀ s3₀ s4₀ s5₀ s6₀ s7₀ k₀ s0 s1 s2 s3 s4 s5 s6 s7 k =
