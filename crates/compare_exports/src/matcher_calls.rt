@@ -7,8 +7,8 @@ ghost use mathlib.Core.Path.{_≡_};
 ghost use Rattle.compare_exports.specs.MatcherCalls.{buffers, counted, fillAnswer, filledBuffers, fitsBands, fitsFillLengths, fitsLimits, fitsLocal, fitsLocalLengths, fitsWhole, fitsWindow, foundIn, foundNear, numbersOf, referenceOf, written};
 ghost use Rattle.matcher_spec.specs.Features.{features};
 use matcher::index::fill_index;
-use matcher::search::local_search;
-use matcher::search::whole_search;
+use matcher::local::local_search;
+use matcher::whole::whole_search;
 use matcher_spec::types::MatchResult;
 use matcher_spec::types::Reference;
 

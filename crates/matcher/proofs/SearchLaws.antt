@@ -1,4 +1,4 @@
--- The laws that the functions of src/index.rt and src/search.rt cite: sizes, fronts and parts of buffers, what an accepted window tells, candidates around peaks, and the range of a local search. Assumes nothing.
+-- The laws that the functions of src/ cite: sizes, fronts and parts of buffers, what an accepted window tells, candidates around peaks, and the range of a local search. Assumes nothing.
 use mathlib.Core.Path.{_≡_, refl, sym, ap, subst, _∙_}
 use Prim.Native.Nat.{ℕ, zero, suc, _+_, _-_, _*_, _/_, _^_, _<_, _≤_, min}
 use native.Mathlib.Nat.{mul-add, mul-le-mul-left, le-refl}

@@ -7,8 +7,8 @@ ghost use Rattle.matcher_replay.specs.Cases.{isSmall};
 use crate::digest;
 use crate::sound;
 use matcher::index::fill_index;
-use matcher::search::local_search;
-use matcher::search::whole_search;
+use matcher::local::local_search;
+use matcher::whole::whole_search;
 use matcher_spec::types::MatchResult;
 use matcher_spec::types::Reference;
 
