@@ -123,13 +123,14 @@ fn candidate_of(
     let bands = reference.bands;
     let frames = reference.frames;
     let hop = reference.hop_ms;
-    let peak = first_maximum(scores);
+    let best = first_maximum(scores);
+    let peak = best.at;
     let index = low + peak;
     let half = n / 2;
     let recent = saturating_sub(n, count(1000.0 / hop));
     Candidate {
         offset_ms: reference.start_ms + (real(index) + fraction_at(scores, peak)) * hop - start,
-        score: scores[peak],
+        score: best.score,
         first_half_score: score_part(
             fine,
             energy,

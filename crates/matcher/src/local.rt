@@ -25,7 +25,9 @@ use numbers::whole::ceil;
 use numbers::whole::count;
 use numbers::whole::floor;
 
-// The best place with an offset from `lower` to `upper`, both included, for the same callers.
+// The best place with an offset from `lower` to `upper`, both included, for a caller that makes one
+// search of a window: crates compare_exports and matcher_replay. The buffers hold the index at their
+// fronts. What the working buffers held does not matter, and what they hold afterwards is free.
 pub fn local_search(
     fine: &[f32],
     energy: &[f64],
@@ -42,6 +44,7 @@ pub fn local_search(
     requires { ⌜ reference .bands * reference .frames ≤ length (now fine) ⌝ ∗ ⌜ reference .bands * (reference .frames + 1) ≤ length (now energy) ⌝ }
     requires { ⌜ length (now values) ≡ bands * length (now times) ⌝ ∗ ⌜ 2 * (bands * length (now times)) ≤ length (now work32) ⌝ ∗ ⌜ 3 * (bands * (length (now times) + 1)) + reference .frames ≤ length (now work64) ⌝ }
     ensures { λ r. ⌜ r ≡ resultOf (localSearch reference (lentBands (reference .bands) (reference .frames) (now (fine .entry)) (now (energy .entry))) (features bands (now (times .entry)) (now (values .entry))) lower upper) ⌝ }
+    ensures { λ r. ⌜ r .count ≤ candidatesMost ⌝ }
 {
     let filled = fill_query(reference, bands, times, values, work32, work64);
     local_found(

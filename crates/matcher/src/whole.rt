@@ -1,5 +1,5 @@
 // Whole search: the candidates of the whole reference.
-ghost use Prim.Native.Nat.{ℕ, suc, _+_, _*_, _/_, _<_, _≤_};
+ghost use Prim.Native.Nat.{ℕ, suc, _+_, _-_, _*_, _/_, _<_, _≤_};
 ghost use lib.ListN.{drop, getD, length, take};
 ghost use mathlib.Core.Bool.{true};
 ghost use mathlib.Core.List.{[], _∷_};
@@ -9,7 +9,6 @@ ghost use Rattle.matcher_spec.specs.Energy.{bandsOf, reduced};
 ghost use Rattle.matcher_spec.specs.Index.{lentBands, lentMatcher};
 ghost use Rattle.matcher_spec.specs.Centring.{wideHop};
 ghost use Rattle.matcher_spec.specs.Limits.{framesMost, bandsMost, candidatesMost};
-ghost use Rattle.matcher_spec.specs.Peaks.{peaks};
 ghost use Rattle.matcher_spec.specs.Search.{FilledQuery, candidatesAt, coarseScores, separation, wholeFound, wholeSearch};
 ghost use Rattle.matcher_spec.specs.Features.{features};
 use crate::candidate::best_candidate;
@@ -31,8 +30,8 @@ use numbers::counts::saturating_sub;
 use numbers::whole::count;
 
 // The candidates of the whole reference, for a caller that makes one search of a window: crates
-// compare_exports and matcher_replay. The buffers hold the index at their fronts; what the working
-// buffers held does not matter.
+// compare_exports and matcher_replay. The buffers hold the index at their fronts. What the working
+// buffers held does not matter, and what they hold afterwards is free.
 pub fn whole_search(
     fine: &[f32],
     coarse: &[f32],
@@ -50,6 +49,7 @@ pub fn whole_search(
     requires { ⌜ reference .bands * (reference .frames / 4) ≤ length (now coarse) ⌝ ∗ ⌜ reference .bands * (reference .frames / 4 + 1) ≤ length (now «coarse_energy») ⌝ }
     requires { ⌜ length (now values) ≡ bands * length (now times) ⌝ ∗ ⌜ 2 * (bands * length (now times)) ≤ length (now work32) ⌝ ∗ ⌜ 3 * (bands * (length (now times) + 1)) + reference .frames ≤ length (now work64) ⌝ }
     ensures { λ r. ⌜ r ≡ resultOf (wholeSearch (lentMatcher reference (now (fine .entry)) (now (coarse .entry)) (now («fine_energy» .entry)) (now («coarse_energy» .entry))) (features bands (now (times .entry)) (now (values .entry)))) ⌝ }
+    ensures { λ r. ⌜ r .count ≤ candidatesMost ⌝ }
 {
     let filled = fill_query(reference, bands, times, values, work32, work64);
     whole_found(
@@ -68,7 +68,8 @@ pub fn whole_search(
 }
 
 // The candidates of the whole reference, by the query that `fill_query` filled for the window: none
-// where it answered false. `bands` and `values` are not read: they say whose query it is.
+// where it answered false. `bands` and `values` are not read: they say whose query it is. What the
+// working buffers hold afterwards is free.
 pub fn whole_found(
     filled: bool,
     fine: &[f32],
@@ -133,7 +134,10 @@ fn whole_candidates(
     let stop = bands * (reference.frames + 1);
     let query_end = bands * n;
     let at = bands * (n + 1);
-    let picked = query_peaks(coarse, coarse_energy, reference, n, work32, work64);
+    let from = at + bands * (n / 4 + 1);
+    let to = from + (reference.frames / 4 - n / 4 + 1);
+    averaged_scores(coarse, coarse_energy, reference, n, work32, work64);
+    let picked = pick_peaks(&work64[from..to], peak_separation(reference.hop_ms));
     let found = candidates_around(
         &fine[..end],
         &fine_energy[..stop],
@@ -148,22 +152,21 @@ fn whole_candidates(
     keep_independent(found)
 }
 
-// The peaks of the averaged scores of the query that stands at the fronts of the working buffers,
-// where it stays.
-fn query_peaks(
+// The scores of the averaged bands at every place, for the query that stands at the fronts of the
+// working buffers, where it stays. The averages stand behind it in `work32`; in `work64` their
+// energies stand behind the query's, and the scores behind them.
+fn averaged_scores(
     coarse: &[f32],
     energy: &[f64],
     reference: Reference,
     n: usize,
     work32: &mut [f32],
     work64: &mut [f64],
-) -> Picked
+)
     requires { ⌜ reference .bands ≤ bandsMost ⌝ ∗ ⌜ 0 < n ⌝ ∗ ⌜ n ≤ reference .frames ⌝ ∗ ⌜ reference .frames ≤ framesMost ⌝ }
     requires { ⌜ reference .bands * (reference .frames / 4) ≤ length (now coarse) ⌝ ∗ ⌜ reference .bands * (reference .frames / 4 + 1) ≤ length (now energy) ⌝ }
     requires { ⌜ 2 * (reference .bands * n) ≤ length (now work32) ⌝ ∗ ⌜ 2 * (reference .bands * (n + 1)) + reference .frames ≤ length (now work64) ⌝ }
-    ensures { λ r. ⌜ r .count ≤ candidatesMost ⌝ }
-    ensures { λ r. ⌜ take (r .count) (r .at) ≡ peaks (coarseScores (reference .bands) (lentBands (reference .bands) (reference .frames / 4) (now (coarse .entry)) (now (energy .entry))) (lentBands (reference .bands) n (now (work32 .entry)) (now (work64 .entry)))) (separation (reference .«hop_ms»)) ⌝ }
-    ensures { λ r. ⌜ ((k : ℕ) → getD (r .at) k 0 ≤ suc framesMost) ⌝ }
+    ensures { λ _. ⌜ take (reference .frames / 4 - n / 4 + 1) (drop (reference .bands * (n + 1) + reference .bands * (n / 4 + 1)) (now (work64 .exit))) ≡ coarseScores (reference .bands) (lentBands (reference .bands) (reference .frames / 4) (now (coarse .entry)) (now (energy .entry))) (lentBands (reference .bands) n (now (work32 .entry)) (now (work64 .entry))) ⌝ }
     ensures { λ _. ⌜ lentBands (reference .bands) n (now (work32 .exit)) (now (work64 .exit)) ≡ lentBands (reference .bands) n (now (work32 .entry)) (now (work64 .entry)) ⌝ }
 {
     let bands = reference.bands;
@@ -172,7 +175,7 @@ fn query_peaks(
     let stop = bands * (coarse_frames + 1);
     let from = bands * n;
     let at = bands * (n + 1);
-    coarse_peaks(
+    score_averages(
         &coarse[..end],
         &energy[..stop],
         reference,
@@ -181,13 +184,13 @@ fn query_peaks(
         n,
         from,
         at,
-    )
+    );
 }
 
-// The peaks of the scores of the bands averaged by fours. `query` has the query at its front; the
-// averages are worked out from `from` on in `query`, their energies and the scores from `at` on in
-// `work`, and what stands before stays.
-fn coarse_peaks(
+// The scores of the bands averaged by fours. `query` has the query at its front; the averages are
+// worked out from `from` on in `query`, their energies and then the scores from `at` on in `work`,
+// and what stands before stays.
+fn score_averages(
     coarse: &[f32],
     energy: &[f64],
     reference: Reference,
@@ -196,13 +199,11 @@ fn coarse_peaks(
     n: usize,
     from: usize,
     at: usize,
-) -> Picked
+)
     requires { ⌜ reference .bands ≤ bandsMost ⌝ ∗ ⌜ 0 < n ⌝ ∗ ⌜ n ≤ reference .frames ⌝ ∗ ⌜ reference .frames ≤ framesMost ⌝ }
     requires { ⌜ reference .bands * (reference .frames / 4) ≤ length (now coarse) ⌝ ∗ ⌜ reference .bands * (reference .frames / 4 + 1) ≤ length (now energy) ⌝ }
     requires { ⌜ reference .bands * n ≤ from ⌝ ∗ ⌜ from + reference .bands * (n / 4) ≤ length (now query) ⌝ ∗ ⌜ at + reference .bands * (n / 4 + 1) + reference .frames ≤ length (now work) ⌝ }
-    ensures { λ r. ⌜ r .count ≤ candidatesMost ⌝ }
-    ensures { λ r. ⌜ take (r .count) (r .at) ≡ peaks (coarseScores (reference .bands) (bandsOf (reference .frames / 4) (now (coarse .entry)) (now (energy .entry))) (bandsOf n (take (reference .bands * n) (now (query .entry))) [])) (separation (reference .«hop_ms»)) ⌝ }
-    ensures { λ r. ⌜ ((k : ℕ) → getD (r .at) k 0 ≤ suc framesMost) ⌝ }
+    ensures { λ _. ⌜ take (reference .frames / 4 - n / 4 + 1) (drop (at + reference .bands * (n / 4 + 1)) (now (work .exit))) ≡ coarseScores (reference .bands) (bandsOf (reference .frames / 4) (now (coarse .entry)) (now (energy .entry))) (bandsOf n (take (reference .bands * n) (now (query .entry))) []) ⌝ }
     ensures { λ _. ⌜ take from (now (query .exit)) ≡ take from (now (query .entry)) ⌝ }
     ensures { λ _. ⌜ take at (now (work .exit)) ≡ take at (now (work .entry)) ⌝ }
 {
@@ -212,7 +213,6 @@ fn coarse_peaks(
     let places = coarse_frames - size + 1;
     let to = from + bands * size;
     let start = at + bands * (size + 1);
-    let end = start + places;
     reduce_query(query, work, bands, n, from, at);
     score_places(
         coarse,
@@ -227,7 +227,6 @@ fn coarse_peaks(
         0,
         places,
     );
-    pick_peaks(&work[start..end], peak_separation(reference.hop_ms))
 }
 
 // Averages the query's bands by fours from `from` on in `query`, and sums up their energies from
@@ -270,7 +269,7 @@ fn candidates_around(
     requires { ⌜ reference .bands * n ≤ length (now query) ⌝ ∗ ⌜ reference .bands * (n + 1) ≤ at ⌝ ∗ ⌜ at + reference .frames ≤ length (now work) ⌝ ∗ ⌜ 0 < n ⌝ }
     requires { ⌜ ((k : ℕ) → getD (picked .at) k 0 ≤ suc framesMost) ⌝ }
     ensures { λ r. ⌜ r .count ≤ candidatesMost ⌝ }
-    ensures { λ r. ⌜ listed r ≡ sorted (candidatesAt reference (bandsOf (reference .frames) (now (fine .entry)) (now (energy .entry))) (bandsOf n (now (query .entry)) (take (reference .bands * (n + 1)) (now (work .entry)))) start (take (picked .count) (picked .at))) ⌝ }
+    ensures { λ r. ⌜ r ≡ resultOf (sorted (candidatesAt reference (bandsOf (reference .frames) (now (fine .entry)) (now (energy .entry))) (bandsOf n (now (query .entry)) (take (reference .bands * (n + 1)) (now (work .entry)))) start (take (picked .count) (picked .at)))) ⌝ }
 {
     let peaks = picked.at;
     let limit = picked.count;
@@ -308,11 +307,12 @@ fn with_candidate(
     at: usize,
     peak: usize,
 ) -> MatchResult
-    requires { ⌜ found .count < candidatesMost ⌝ ∗ ⌜ peak ≤ suc framesMost ⌝ ∗ ⌜ reference .bands ≤ bandsMost ⌝ ∗ ⌜ n ≤ reference .frames ⌝ ∗ ⌜ reference .frames ≤ framesMost ⌝ }
+    requires { ⌜ found .count < candidatesMost ⌝ ∗ ⌜ found ≡ resultOf (listed found) ⌝ }
+    requires { ⌜ peak ≤ suc framesMost ⌝ ∗ ⌜ reference .bands ≤ bandsMost ⌝ ∗ ⌜ n ≤ reference .frames ⌝ ∗ ⌜ reference .frames ≤ framesMost ⌝ }
     requires { ⌜ reference .bands * reference .frames ≤ length (now fine) ⌝ ∗ ⌜ reference .bands * (reference .frames + 1) ≤ length (now energy) ⌝ }
     requires { ⌜ reference .bands * n ≤ length (now query) ⌝ ∗ ⌜ reference .bands * (n + 1) ≤ at ⌝ ∗ ⌜ at + reference .frames ≤ length (now work) ⌝ ∗ ⌜ 0 < n ⌝ }
     ensures { λ r. ⌜ r .count ≤ found .count + 1 ⌝ }
-    ensures { λ r. ⌜ listed r ≡ sortInto (listed found) (candidatesAt reference (bandsOf (reference .frames) (now (fine .entry)) (now (energy .entry))) (bandsOf n (now (query .entry)) (take (reference .bands * (n + 1)) (now (work .entry)))) start (peak ∷ [])) ⌝ }
+    ensures { λ r. ⌜ r ≡ resultOf (sortInto (listed found) (candidatesAt reference (bandsOf (reference .frames) (now (fine .entry)) (now (energy .entry))) (bandsOf n (now (query .entry)) (take (reference .bands * (n + 1)) (now (work .entry)))) start (peak ∷ []))) ⌝ }
     ensures { λ _. ⌜ take at (now (work .exit)) ≡ take at (now (work .entry)) ⌝ }
 {
     let centre = peak * 4;

@@ -6,14 +6,12 @@ use native.Mathlib.Omega.{arith}
 use mathlib.Core.List.{List}
 use lib.Ieee.{Float}
 use lib.ListN.{take, drop}
-use Rattle.matcher_spec.specs.Energy.{bandsOf, wholeEnergies}
-use Rattle.matcher_spec.specs.Search.{candidateOf, candidateIn}
-use Rattle.matcher.proofs.SearchLaws.{shorter-front}
+use Rattle.matcher_spec.specs.Energy.{bandsOf}
+use Rattle.matcher.proofs.SearchLaws.{shorter-front, best-is}
 use Rattle.matcher.proofs.candidate.best_candidate.Statement.{statement}
 use Rattle.matcher.proofs.candidate.best_candidate.Tie as tie
 
 returns : tie.Need-returns
-unfolding candidateIn wholeEnergies
 returns c =
     let done = c .before .before .before .before .before .before in
     let start = done .before .before .before .before .before .before .before in
@@ -25,10 +23,10 @@ returns c =
     let places : ℕ = a .high - a .low + 1 in
     let same : a .at + places - a .at ≡ places = omega arith in
     let all : front - 0 ≡ front = omega arith in
-    let energies = ap (λ (k : ℕ). take k after) all ∙ shorter-front front (a .at) after w before (done .score-places .ensures .1) in
-    let scores = ap (λ (k : ℕ). take k (drop (a .at) after)) same ∙ done .score-places .ensures .0 in (
-      c .candidate-of .ensures
-          ∙ (λ i. candidateOf (a .reference) (bandsOf (a .reference .frames) (a .fine .now) (a .energy .now)) (bandsOf (a .n) (a .query .now) (energies i)) (a .start) (a .low) (scores i)),
+    let fine = bandsOf (a .reference .frames) (a .fine .now) (a .energy .now) in
+    let energies = _∙_ {b = take front after} (ap (λ (k : ℕ). take k after) all) (shorter-front front (a .at) after w before (done .score-places .ensures .1)) in (
+      best-is (a .reference) fine (a .n) (a .query .now) (take front w) (a .start) (a .low) (a .high) (a .at) (a .at + places - a .at) after (take (front - 0) after) (c .candidate-of .result)
+          (c .candidate-of .ensures) energies same (done .score-places .ensures .0),
       done .score-places .ensures .1,
     )
 

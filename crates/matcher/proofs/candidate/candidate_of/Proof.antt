@@ -7,17 +7,18 @@ use Rattle.matcher.proofs.candidate.candidate_of.Tie as tie
 
 score-part-requires-3 : tie.Need-score-part-requires-3
 score-part-requires-3 c κs =
-    let less = c .before .before .before .before .before .before .saturating-sub .ensures in
-    let p = c .before .before .before .before .before .before .before .before .before .before .before .before .before .before .pre in
+    let less = c .before .before .before .before .before .saturating-sub .ensures in
+    let p = c .before .before .before .before .before .before .before .before .before .before .before .before .before .pre in
     (omega arith, (omega arith, (omega arith, (omega arith, (omega arith, (omega arith, omega arith))))))
 
 returns : tie.Need-returns
 unfolding candidateOf
 returns c =
     let parts = c .before .before in
-    let shape = parts .before .before .before in
+    let shape = parts .before .before in
     simp (
       ← (shape .before .before .before .before .first-maximum .ensures .0),
+      ← (shape .before .before .before .before .first-maximum .ensures .1 .0),
       ← (shape .before .before .before .count .ensures),
       ← (shape .before .before .saturating-sub .ensures),
       ← (shape .before .real .ensures),
@@ -37,8 +38,6 @@ candidate-of-spec =
     (λ c κs. search needs)
     (λ c κs. search needs)
     (λ c κs. search needs)
-    (λ c. search needs)
-    (λ c. search needs)
     (λ c κs. search needs)
     (λ c κs. search needs)
     score-part-requires-3

@@ -1,15 +1,15 @@
 -- `matcher::candidate::score_places` meets its contract. Assumes nothing.
 use borrow.Author.Needs.{needs}
-use borrow.Rule.Slice.PartMut.{putMid, take-put}
-use mathlib.Core.Path.{_≡_, sym, ap, _∙_}
+use borrow.Rule.Slice.PartMut.{take-put}
+use mathlib.Core.Path.{_≡_, ap, _∙_}
 use Prim.Native.Nat.{ℕ, _+_, _-_, _*_}
 use native.Mathlib.Omega.{arith}
 use mathlib.Core.List.{List, []}
 use lib.Ieee.{Float}
 use lib.ListN.{length, take, drop, length-take, length-drop}
-use Rattle.matcher_spec.specs.Energy.{bandsOf, wholeEnergies}
+use Rattle.matcher_spec.specs.Energy.{Bands, bandsOf, wholeEnergies}
 use Rattle.matcher_spec.specs.Scores.{correlations}
-use Rattle.matcher.proofs.SearchLaws.{put-read}
+use Rattle.matcher.proofs.SearchLaws.{put-is}
 use Rattle.matcher.proofs.candidate.score_places.Statement.{statement}
 use Rattle.matcher.proofs.candidate.score_places.Tie as tie
 
@@ -19,6 +19,14 @@ slice-aggregate-correlations c = simp length-take (omega arith)
 correlations-requires : tie.Need-correlations-requires
 correlations-requires c κs =
     (omega arith, (omega arith, (omega arith, (simp length-take (omega arith), simp (length-take, length-drop) (omega arith)))))
+
+-- the scores by the energies that stand in the buffer, of which a part was lent
+scores-are : (bands : ℕ) (reference : Bands) (n : ℕ) (query : List Float) (low places k from m : ℕ) {part : ℕ} (work whole scores : List Float)
+    → scores ≡ correlations bands reference n query whole low m → m ≡ places → whole ≡ wholeEnergies bands (bandsOf n [] (take part (drop from work))) → part ≡ k
+    → scores ≡ correlations bands reference n query (wholeEnergies bands (bandsOf n [] (take k (drop from work)))) low places
+scores-are bands reference n query low places k from m work whole scores p e q f =
+    let same = q ∙ ap (λ (j : ℕ). wholeEnergies bands (bandsOf n [] (take j (drop from work)))) f in
+    p ∙ (λ i. correlations bands reference n query (same i) low (e i))
 
 returns : tie.Need-returns
 returns c =
@@ -32,11 +40,9 @@ returns c =
     let lent : length (take (a .at + a .places - a .at) (drop (a .at) w)) ≡ a .places = simp (length-take, length-drop) (omega arith) in
     let size : length scores ≡ a .places = done .correlations .kept .0 ∙ lent in
     let same : a .from + a .bands * (a .n + 1) - a .from ≡ a .bands * (a .n + 1) = omega arith in
-    let whole = done .before .before .before .whole-energies .ensures ∙ ap (λ (k : ℕ). wholeEnergies (a .bands) (bandsOf (a .n) [] (take k (drop (a .from) w)))) same in (
-      ap (λ (k : ℕ). take k (drop (a .at) (putMid (a .at) (a .at + a .places - a .at) w scores))) (sym size)
-          ∙ put-read (a .at) (a .at + a .places - a .at) w scores (omega arith)
-          ∙ done .correlations .ensures
-          ∙ (λ i. correlations (a .bands) reference (a .n) (a .query .now) (whole i) (a .low) (lent i)),
+    let whole = done .before .before .before .whole-energies in (
+      _∙_ {b = scores} (put-is (a .at) (a .at + a .places - a .at) (a .places) w scores (omega arith) size)
+          (scores-are (a .bands) reference (a .n) (a .query .now) (a .low) (a .places) (a .bands * (a .n + 1)) (a .from) (length (take (a .at + a .places - a .at) (drop (a .at) w))) w (take (a .bands) (whole .result)) scores (done .correlations .ensures) lent (whole .ensures) same),
       take-put (a .at) (a .at + a .places - a .at) w scores (omega arith),
     )
 

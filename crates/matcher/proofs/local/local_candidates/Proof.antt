@@ -1,17 +1,16 @@
 -- `matcher::local::local_candidates` meets its contract: the counts of the range's ends are places, since the upper is at most the last. Assumes nothing.
 use borrow.Author.Needs.{needs}
 use mathlib.Core.Path.{refl, ap, _∙_}
-use mathlib.Core.List.{List, [], _∷_, _++_}
+use mathlib.Core.List.{List, []}
 use Prim.Native.Nat.{ℕ, _-_}
 use native.Mathlib.Omega.{arith}
 use lib.Ieee.{Float, le, ofBits}
 use Rattle.numbers_spec.specs.Arithmetic.{zero⁺, atLeast, atMost}
 use Rattle.matcher_spec.specs.Candidates.{resultOf}
 use Rattle.matcher_spec.specs.Index.{lentBands}
-use Rattle.matcher_spec.specs.Search.{candidateIn}
 use Rattle.matcher_spec.specs.declared.types.Candidate.{Candidate}
-use Rattle.matcher_spec.proofs.CandidateLaws.{listed-result, result-listed}
-use Rattle.matcher.proofs.SearchLaws.{and-last, counts-within, local-one, local-none}
+use Rattle.matcher_spec.proofs.CandidateLaws.{result-listed}
+use Rattle.matcher.proofs.SearchLaws.{and-last, counts-within, local-pushed, local-none}
 use Rattle.matcher.proofs.local.local_candidates.Statement.{statement}
 use Rattle.matcher.proofs.local.local_candidates.Tie as tie
 
@@ -43,11 +42,9 @@ returns c =
     let fine = lentBands (a .reference .bands) (a .reference .frames) (a .fine .now) (a .energy .now) in
     let query = lentBands (a .reference .bands) (a .n) (a .work32 .now) (a .work64 .now) in
     let low = ends .before .before .before .before .before .at-least .ensures ∙ ap (atLeast zero⁺) (ends .before .before .before .before .before .before .ceil .ensures) in
-    let high = ends .at-most .ensures ∙ (λ i. atMost (ends .before .before .before .before .real .ensures i) (ends .before .floor .ensures i)) in
-    let best = found .query-candidate .ensures .0 ∙ (λ i. candidateIn (a .reference) fine query (a .start) (found .before .before .before .count .ensures i) (found .before .before .count2 .ensures i)) in (
-      c .push .ensures
-          ∙ ap (λ (l : List Candidate). resultOf (l ++ (found .query-candidate .result ∷ []))) (listed-result [] (c .before .nothing-found .ensures))
-          ∙ ap (λ (l : List Candidate). resultOf l) (local-one (a .reference) fine query (a .start) (a .lower) (a .upper) (at .before .before .is-finite .ensures) (at .before .is-finite2 .ensures) low high (at .if1 .taken) best),
+    let high = ends .at-most .ensures ∙ (λ i. atMost (ends .before .before .before .before .real .ensures i) (ends .before .floor .ensures i)) in (
+      local-pushed (a .reference) fine query (a .start) (a .lower) (a .upper) (c .before .nothing-found .result) (c .push .result) (c .push .ensures) (c .before .nothing-found .ensures)
+          (at .before .before .is-finite .ensures) (at .before .is-finite2 .ensures) low high (at .if1 .taken) (found .query-candidate .ensures .0) (found .before .before .before .count .ensures) (found .before .before .count2 .ensures),
       found .query-candidate .ensures .1,
     )
 

@@ -11,7 +11,7 @@ local-found-requires c κs =
     (p .0, (p .1 .0, (p .1 .1 .0, (p .1 .1 .1 .0, (p .1 .1 .1 .1 .0, (p .1 .1 .1 .1 .1 .0, (omega arith, (omega arith, filled .ensures))))))))
 
 returns : tie.Need-returns
-returns c = c .before .before .local-found .ensures .0
+returns c = let done = c .before .before .local-found .ensures in (done .0, done .1 .0)
 
 pub local-search-spec : {M : Type 1} → statement M
 local-search-spec =

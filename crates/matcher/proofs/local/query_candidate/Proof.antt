@@ -1,13 +1,10 @@
 -- `matcher::local::query_candidate` meets its contract: the scores stand behind the query's energies. Assumes nothing.
 use borrow.Author.Needs.{needs}
-use mathlib.Core.Path.{refl, _∙_}
-use Prim.Native.Nat.{ℕ, _*_}
-use native.Mathlib.Numerals.{add-one}
+use mathlib.Core.Path.{refl}
+use Prim.Native.Nat.{ℕ}
 use native.Mathlib.Omega.{arith}
-use lib.ListN.{take, length-take}
-use Rattle.matcher_spec.specs.Energy.{bandsOf}
-use Rattle.matcher_spec.specs.Search.{candidateIn}
-use Rattle.matcher.proofs.SearchLaws.{query-stays}
+use lib.ListN.{length-take}
+use Rattle.matcher.proofs.SearchLaws.{query-stays, lent-candidate}
 use Rattle.matcher.proofs.local.query_candidate.Statement.{statement}
 use Rattle.matcher.proofs.local.query_candidate.Tie as tie
 
@@ -28,11 +25,8 @@ returns : tie.Need-returns
 returns c =
     let best = c .before .before in
     let a = c .before .before .before .before .before .before .before .before .before .before .before .before .before .args in
-    let bands : ℕ = a .reference .bands in
-    let frames : ℕ = a .reference .frames in (
-      best .best-candidate .ensures .0
-          ∙ (λ i. candidateIn (a .reference) (bandsOf frames (take (bands * frames) (a .fine .now)) (take (bands * add-one frames i) (a .energy .now)))
-          (bandsOf (a .n) (take (bands * a .n) (a .work32 .now)) (take (bands * add-one (a .n) i) (a .work64 .now))) (a .start) (a .low) (a .high)),
+    let bands : ℕ = a .reference .bands in (
+      lent-candidate (a .reference) (a .n) (a .fine .now) (a .energy .now) (a .work32 .now) (a .work64 .now) (a .start) (a .low) (a .high) (best .best-candidate .result) (best .best-candidate .ensures .0),
       query-stays bands (a .n) (a .work32 .now) (a .work32 .now) _ (a .work64 .now) refl (best .best-candidate .ensures .1),
     )
 

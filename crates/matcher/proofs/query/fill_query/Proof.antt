@@ -1,12 +1,12 @@
 -- `matcher::query::fill_query` meets its contract. Assumes nothing.
 use borrow.Author.Needs.{needs}
-use borrow.Author.Tests.{not-true, not-false}
+use borrow.Author.Tests.{not-true}
 use mathlib.Core.Bool.{false≢true}
 use mathlib.Core.Path.{sym, _∙_}
 use native.Mathlib.Omega.{arith}
 use Rattle.matcher_spec.specs.Features.{features}
 use Rattle.matcher_spec.proofs.RadiusLaw.{radius-small}
-use Rattle.matcher.proofs.SearchLaws.{searchable-room, query-filled}
+use Rattle.matcher.proofs.SearchLaws.{searchable-room, searchable-true, query-told}
 use Rattle.matcher.proofs.query.fill_query.Statement.{statement}
 use Rattle.matcher.proofs.query.fill_query.Tie as tie
 
@@ -19,7 +19,7 @@ centre-query-requires c κs =
     let start = c .before .before .before .before .before .before .before .before .before in
     let a = start .args in
     let p = start .pre in
-    let room = searchable-room (a .reference) (features (a .bands) (a .times .now) (a .values .now)) (sym (at .before .is-searchable .ensures) ∙ not-false _ (at .if1 .left)) in
+    let room = searchable-room (a .reference) (features (a .bands) (a .times .now) (a .values .now)) (searchable-true (a .reference) (features (a .bands) (a .times .now) (a .values .now)) (at .before .is-searchable .result) (at .before .is-searchable .ensures) (at .if1 .left)) in
     let small = radius-small (a .reference .«hop_ms») (p .0) in
     let r = c .radius .ensures in
     (omega arith, (omega arith, (omega arith, (omega arith, (omega arith, omega arith)))))
@@ -30,10 +30,8 @@ returns-2 c =
     let at = c .before .before .before .before .before .before .before .before in
     let a = c .before .before .before .before .before .before .before .before .before .before .before .before .before .before .args in
     let w = features (a .bands) (a .times .now) (a .values .now) in
-    let test = sym (at .before .is-searchable .ensures) ∙ not-false _ (at .if1 .left) in
-    let same = searchable-room (a .reference) w test .0 in
-    let filled = done .centre-query .ensures in
-    record { told = sym test; query = λ h. query-filled (a .reference) w _ _ (done .before .radius .ensures) same (filled .0) (filled .1) }
+    let filled = done .centre-query in
+    query-told (a .reference) w (filled .last .0) (filled .last .1 .0) (at .before .is-searchable .result) (at .before .is-searchable .ensures) (at .if1 .left) (done .before .radius .ensures) (filled .ensures .0) (filled .ensures .1)
 
 pub fill-query-spec : {M : Type 1} → statement M
 fill-query-spec =

@@ -6,13 +6,21 @@ use native.Mathlib.Omega.{arith}
 use mathlib.Core.List.{List, [], _∷_}
 use lib.Ieee.{Float}
 use lib.ListN.{length, getD, take}
-use Rattle.matcher_spec.specs.Candidates.{sortInto, listed}
+use Rattle.matcher_spec.specs.Candidates.{sortInto, listed, resultOf}
 use Rattle.matcher_spec.specs.Energy.{Bands, bandsOf}
 use Rattle.matcher_spec.specs.Search.{candidatesAt}
+use Rattle.matcher_spec.specs.declared.types.MatchResult.{MatchResult}
+use Rattle.matcher_spec.specs.declared.types.Reference.{Reference}
 use Rattle.matcher_spec.proofs.CandidateLaws.{next, no-more}
 use Rattle.matcher.proofs.SearchLaws.{shorter-front, Found, found-none, found-more, found-all, eight}
 use Rattle.matcher.proofs.whole.candidates_around.Statement.{statement}
 use Rattle.matcher.proofs.whole.candidates_around.Tie as tie
+
+-- the same is found by energies that are the same
+found-by : (x : Reference) (fine : Bands) (n : ℕ) (query energy held : List Float) (start : Float) (found more : MatchResult) (peak : ℕ)
+    → more ≡ resultOf (sortInto (listed found) (candidatesAt x fine (bandsOf n query energy) start (peak ∷ []))) → energy ≡ held
+    → more ≡ resultOf (sortInto (listed found) (candidatesAt x fine (bandsOf n query held) start (peak ∷ [])))
+found-by x fine n query energy held start found more peak p e = p ∙ (λ i. resultOf (sortInto (listed found) (candidatesAt x fine (bandsOf n query (e i)) start (peak ∷ []))))
 
 abbrev Inv-loop : tie.InvT-loop
 Inv-loop fine energy reference query start n work₀ at peaks limit found₀ k₀ work found k =
@@ -36,7 +44,7 @@ with-candidate-requires c κs =
     let start = c .before .before .before .before .before .before .before .before .before in
     let p = start .pre in
     let inv = c .before .before .loop .inv in
-    (omega arith, (start .pre .1 .1 .1 .1 .1 .1 .1 .1 .1 .1 (c .before .before .loop .k), (omega arith, (omega arith, (omega arith, (omega arith, (omega arith, (omega arith, (omega arith, (omega arith, omega arith))))))))))
+    (omega arith, (inv .3 .1, (start .pre .1 .1 .1 .1 .1 .1 .1 .1 .1 .1 (c .before .before .loop .k), (omega arith, (omega arith, (omega arith, (omega arith, (omega arith, (omega arith, (omega arith, (omega arith, omega arith)))))))))))
 
 loop-again : tie.Need-loop-again Inv-loop μ-loop
 loop-again c =
@@ -56,10 +64,10 @@ loop-again c =
     let fine = bandsOf (a .reference .frames) (a .fine .now) (a .energy .now) in
     let query : List Float → Bands = bandsOf (a .n) (a .query .now) in
     let step = next (a .picked .at) (a .picked .count) k 0 (omega arith) (omega arith) in
-    let more = done .with-candidate .ensures .1 .0 ∙ (λ i. sortInto (listed (at .loop .found)) (candidatesAt (a .reference) fine (query (energies i)) (a .start) (peak ∷ []))) in (
+    let more = found-by (a .reference) fine (a .n) (a .query .now) (take front w) (take front (a .work .now)) (a .start) (at .loop .found) (done .with-candidate .result) peak (done .with-candidate .ensures .1 .0) energies in (
       omega arith,
-      done .with-candidate .kept .1 .1 .1 .1 .1 .1 .1 .0 ∙ inv .1,
-      done .with-candidate .ensures .1 .1 ∙ inv .2,
+      _∙_ {b = length w} (done .with-candidate .kept .1 .1 .1 .1 .1 .1 .1 .0) (inv .1),
+      _∙_ {a = take (a .at) (done .with-candidate .last .1 .1 .1 .1 .1 .1 .1 .0)} {b = take (a .at) w} (done .with-candidate .ensures .1 .1) (inv .2),
       found-more (a .reference) fine (query (take front (a .work .now))) (a .start) (take (a .picked .count) (a .picked .at)) k peak (at .loop .found) (done .with-candidate .result)
           (inv .3) step (done .with-candidate .ensures .0) more,
     )

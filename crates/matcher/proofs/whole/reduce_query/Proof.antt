@@ -4,7 +4,7 @@ use borrow.Rule.Slice.PartMut.{putMid, take-put}
 use mathlib.Core.Path.{_≡_, sym, ap, _∙_}
 use Prim.Native.Nat.{ℕ, _+_, _-_, _*_, _/_, _≤_}
 use native.Mathlib.Omega.{arith}
-use mathlib.Core.List.{List}
+use mathlib.Core.List.{List, _++_}
 use lib.Ieee.{Float}
 use lib.ListN.{length, take, drop, length-take, length-drop}
 use Rattle.matcher_spec.specs.Energy.{allAverages, allEnergies}
@@ -34,10 +34,10 @@ returns c =
     let long : length part ≡ j = done .fill-energies .kept .0 ∙ lent in
     let same : a .from + k - a .from ≡ k = omega arith in
     let energies =
-    done .fill-energies .ensures
-    ∙ whole-row (allEnergies (a .bands) size (take (a .from + k - a .from) (drop (a .from) after))) (take (a .at + j - a .at) (drop (a .at) w)) j (omega arith)
+    _∙_ {b = allEnergies (a .bands) size (take (a .from + k - a .from) (drop (a .from) after)) ++ drop j (take (a .at + j - a .at) (drop (a .at) w))} (done .fill-energies .ensures)
+    (whole-row (allEnergies (a .bands) size (take (a .from + k - a .from) (drop (a .from) after))) (take (a .at + j - a .at) (drop (a .at) w)) j (omega arith)
     ∙ ap (λ (i : ℕ). allEnergies (a .bands) size (take i (drop (a .from) after))) same
-    ∙ ap (allEnergies (a .bands) size) values in (
+    ∙ ap (allEnergies (a .bands) size) values) in (
       values,
       (
         ap (λ (i : ℕ). take i (drop (a .at) (putMid (a .at) (a .at + j - a .at) w part))) (sym long) ∙ put-read (a .at) (a .at + j - a .at) w part (omega arith) ∙ energies,

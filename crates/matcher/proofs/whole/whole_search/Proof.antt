@@ -11,7 +11,7 @@ whole-found-requires c κs =
     (p .0, (p .1 .0, (p .1 .1 .0, (p .1 .1 .1 .0, (p .1 .1 .1 .1 .0, (p .1 .1 .1 .1 .1 .0, (p .1 .1 .1 .1 .1 .1 .0, (p .1 .1 .1 .1 .1 .1 .1 .0, (omega arith, (omega arith, filled .ensures))))))))))
 
 returns : tie.Need-returns
-returns c = c .before .before .before .before .whole-found .ensures .0
+returns c = c .before .before .before .before .whole-found .ensures
 
 pub whole-search-spec : {M : Type 1} → statement M
 whole-search-spec =

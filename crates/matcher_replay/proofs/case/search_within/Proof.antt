@@ -40,6 +40,6 @@ search-within-spec =
     (λ c κs. search needs)
     (λ c. c .before .before .before .before .before .before .before .before .before .before .before .before .before .before .before .before .before .before .before .before .before .before .before .before .before .before .before .before .before .before .before .fill-times .kept .0)
     (λ c. c .before .before .before .before .before .before .before .before .before .before .before .before .before .before .before .before .before .before .before .before .before .before .before .before .before .before .before .fill-window .kept .0)
-    (λ c. search needs)
-    (λ c. search needs)
+    (λ c. c .before .before .before .before .before .before .before .local-search .kept .1 .1 .1 .1 .1 .1 .1 .1 .0 ∙ c .before .before .before .before .before .before .before .before .before .before .before .before .before .before .before .before .before .before .before .before .whole-search .kept .1 .1 .1 .1 .1 .1 .1 .1 .0)
+    (λ c. c .before .before .before .before .before .before .before .local-search .kept .1 .1 .1 .1 .1 .1 .1 .1 .1 .0 ∙ c .before .before .before .before .before .before .before .before .before .before .before .before .before .before .before .before .before .before .before .before .whole-search .kept .1 .1 .1 .1 .1 .1 .1 .1 .1 .0)
     (λ c. search needs))
