@@ -8,8 +8,8 @@ ghost use Rattle.compare_exports.specs.MatcherCalls.{buffers, candidateA
 ghost use Rattle.matcher_spec.specs.Features.{features};
 ghost use Rattle.matcher_spec.specs.Limits.{framesMost, bandsMost};
 use matcher::index::fill_index;
-use matcher::search::local_search;
-use matcher::search::whole_search;
+use matcher::local::local_search;
+use matcher::whole::whole_search;
 use matcher_picks::candidates::margin;
 use matcher_spec::limits::BANDS_MOST;
 use matcher_spec::limits::CANDIDATES_MOST;

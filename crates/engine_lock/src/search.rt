@@ -32,9 +32,9 @@ use engine_spec::types::Hypothesis;
 use engine_spec::types::Lock;
 use engine_spec::types::RecordedMs;
 use engine_spec::types::Settings;
-use matcher::search::fill_query;
-use matcher::search::local_found;
-use matcher::search::whole_found;
+use matcher::local::local_found;
+use matcher::query::fill_query;
+use matcher::whole::whole_found;
 use matcher_picks::candidates::nothing_found;
 use matcher_spec::types::Reference;
 

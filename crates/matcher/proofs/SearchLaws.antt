@@ -1,15 +1,15 @@
--- The laws that the functions of src/index.rt and src/search.rt cite: sizes, fronts and parts of buffers, what an accepted window tells, candidates around peaks, and the range of a local search. Assumes nothing.
+-- The laws that the functions of src/ cite: sizes, fronts and parts of buffers, what an accepted window tells, candidates around peaks, and the range of a local search. Assumes nothing.
 use mathlib.Core.Path.{_≡_, refl, sym, ap, subst, _∙_}
 use Prim.Native.Nat.{ℕ, zero, suc, _+_, _-_, _*_, _/_, _^_, _<_, _≤_, min}
 use native.Mathlib.Nat.{mul-add, mul-le-mul-left, le-refl}
 use native.Mathlib.Numerals.{add-one}
 use native.Mathlib.Omega.{arith}
-use mathlib.Core.Bool.{Bool, true, false, cond, _&&_}
+use mathlib.Core.Bool.{Bool, true, false, cond, not, _&&_}
 use mathlib.Core.List.{List, [], _∷_, _++_, append-assoc}
 use mir.Val.{Val}
 use denote.Laws.{Is}
 use denote.Struct.Declared.{row as rowOf}
-use borrow.Author.Tests.{ltb-true, leb-true, eqb-true, le-leb, lt-leb}
+use borrow.Author.Tests.{not-false, ltb-true, leb-true, eqb-true, le-leb, lt-leb}
 use lib.Dec.{T, eqb, ltb, leb}
 use lib.Ieee.{Float, le, lt}
 use lib.Ieee.Scale.{finite}
@@ -22,16 +22,21 @@ use Rattle.numbers_spec.proofs.CountLaws.{count-monotone, count-at-most}
 use Rattle.numbers_spec.proofs.Mantissa.{whole-finite}
 use Rattle.numbers_spec.proofs.Order.{lt→le, le-self}
 use Rattle.matcher_spec.specs.Candidates.{crowded, independent, independentFrom, insert, sortInto, sorted, listed, resultOf}
-use Rattle.matcher_spec.specs.Energy.{Bands, allEnergies, averages, allAverages, bandsOf}
+use Rattle.matcher_spec.specs.Energy.{Bands, allEnergies, averages, allAverages, bandsOf, reduced, wholeEnergies}
+use Rattle.matcher_spec.specs.Peaks.{peaks}
+use Rattle.matcher_spec.specs.Scores.{correlations}
 use Rattle.matcher_spec.specs.Index.{Matcher, acceptsReference, lentBands}
 use Rattle.numbers_spec.specs.Rows.{row, rows}
-use Rattle.matcher_spec.specs.Search.{FilledQuery, QueryIn, candidateIn, candidatesAt, localFound, localHigh, localLow, localSearch, queryOf, queryStart, queryValues, searchable, wholeFound, wholeSearch}
+use Rattle.matcher_spec.specs.Search.{FilledQuery, QueryIn, candidateIn, candidateOf, candidatesAt, coarseScores, localFound, localHigh, localLow, localSearch, queryOf, queryStart, queryValues, searchable, separation, wholeFound, wholeSearch}
 use Rattle.matcher_spec.specs.Features.{Features}
 use Rattle.matcher_spec.specs.Timeline.{accepts, regular, validValues}
 use Rattle.matcher_spec.specs.declared.types.Candidate.{Candidate}
 use Rattle.matcher_spec.specs.declared.types.MatchResult.{MatchResult}
 use Rattle.matcher_spec.specs.declared.types.Reference.{Reference}
+use Rattle.matcher_spec.proofs.CandidateLaws.{listed-result, result-listed}
+use Rattle.matcher_picks.specs.Picks.{pickedOf}
 use Rattle.matcher_picks.specs.declared.peaks.Picked.{Picked}
+use Rattle.matcher_picks.proofs.ResultLaws.{listed-picked}
 use Rattle.matcher_picks.proofs.peaks.Picked.{the-type}
 use Rattle.numbers_spec.proofs.RowLaws.{row-within, length-tabulate}
 
@@ -109,6 +114,9 @@ drop-past x d m k l h =
 -- the part that was lent from `at` on and came back can be read there
 pub put-read : {A : Type 0} (at k : ℕ) (d part : List A) → at ≤ length d → take (length part) (drop at (putMid at k d part)) ≡ part
 put-read at k d part h = ap (take (length part)) (drop-at (take at d) (part ++ postOf at k d) at (length-take-le at d h)) ∙ take-append-seam part (postOf at k d)
+
+pub put-is : {A : Type 0} (at k n : ℕ) (d part : List A) → at ≤ length d → length part ≡ n → take n (drop at (putMid at k d part)) ≡ part
+put-is at k n d part h e = ap (λ (j : ℕ). take j (drop at (putMid at k d part))) (sym e) ∙ put-read at k d part h
 
 -- the averages of the bands at the front of a list
 pub averages-of-front : (bands n : ℕ) (v : List Float) → bands * n ≤ length v → allAverages bands n v ≡ allAverages bands n (take (bands * n) v)
@@ -195,6 +203,12 @@ module _ (x : Reference) (fine query : Bands) (start : Float) where
   unfolding sortInto candidatesAt
   none-found done p {low} {high} a b h = rw (← a, ← b, lt-leb low high h)
 
+  -- the result with the candidate around a peak
+  pub result-with : (found : MatchResult) (p : ℕ) {low high : ℕ} {c : Candidate} (r : MatchResult) → r ≡ resultOf (insert c (listed found)) → c ≡ candidateIn x fine query start low high
+      → low ≡ p * 4 - 4 → high ≡ min (x .frames - query .count) (p * 4 + 4) → low ≤ high → r ≡ resultOf (sortInto (listed found) (candidatesAt x fine query start (p ∷ [])))
+  result-with found p r e best a b h =
+      e ∙ ap (λ (d : Candidate). resultOf (insert d (listed found))) best ∙ ap (λ (l : List Candidate). resultOf l) (one-found (listed found) p a b h)
+
   -- one peak, and then the others
   pub next-peak : (done : List Candidate) (p : ℕ) (ps : List ℕ)
       → sortInto done (candidatesAt x fine query start (p ∷ ps)) ≡ sortInto (sortInto done (candidatesAt x fine query start (p ∷ []))) (candidatesAt x fine query start ps)
@@ -207,24 +221,27 @@ module _ (x : Reference) (fine query : Bands) (start : Float) where
 -- what is found around the first k peaks: going on from here gives the answer
 module _ (x : Reference) (fine query : Bands) (start : Float) (peaks : List ℕ) where
   abbrev pub Found : ℕ → MatchResult → Type 0
-  Found k found = (found .count ≤ k) × (sortInto (listed found) (candidatesAt x fine query start (drop k peaks)) ≡ sorted (candidatesAt x fine query start peaks))
+  Found k found =
+      (found .count ≤ k) × (found ≡ resultOf (listed found))
+      × (sortInto (listed found) (candidatesAt x fine query start (drop k peaks)) ≡ sorted (candidatesAt x fine query start peaks))
 
   pub found-none : {found : MatchResult} → found ≡ resultOf [] → Found 0 found
-  found-none e = (rw e (omega arith), ap (λ (f : MatchResult). sortInto (listed f) (candidatesAt x fine query start peaks)) e)
+  found-none e = (rw e (omega arith), result-listed [] e, ap (λ (f : MatchResult). sortInto (listed f) (candidatesAt x fine query start peaks)) e)
 
   pub found-more : (k p : ℕ) (found more : MatchResult) → Found k found → drop k peaks ≡ p ∷ drop (k + 1) peaks → more .count ≤ found .count + 1
-      → listed more ≡ sortInto (listed found) (candidatesAt x fine query start (p ∷ [])) → Found (k + 1) more
+      → more ≡ resultOf (sortInto (listed found) (candidatesAt x fine query start (p ∷ []))) → Found (k + 1) more
   found-more k p found more before step n e = (
     omega arith,
-    ap (λ (l : List Candidate). sortInto l (candidatesAt x fine query start (drop (k + 1) peaks))) e
+    result-listed (sortInto (listed found) (candidatesAt x fine query start (p ∷ []))) e,
+    ap (λ (l : List Candidate). sortInto l (candidatesAt x fine query start (drop (k + 1) peaks))) (listed-result (sortInto (listed found) (candidatesAt x fine query start (p ∷ []))) e)
         ∙ sym (next-peak x fine query start (listed found) p (drop (k + 1) peaks))
         ∙ ap (λ (l : List ℕ). sortInto (listed found) (candidatesAt x fine query start l)) (sym step)
-        ∙ before .1,
+        ∙ before .2,
   )
 
-  pub found-all : (k : ℕ) (found : MatchResult) → Found k found → drop k peaks ≡ [] → listed found ≡ sorted (candidatesAt x fine query start peaks)
+  pub found-all : (k : ℕ) (found : MatchResult) → Found k found → drop k peaks ≡ [] → found ≡ resultOf (sorted (candidatesAt x fine query start peaks))
   unfolding sortInto candidatesAt
-  found-all k found done e = rw e at (done .1)
+  found-all k found done e = done .1 ∙ ap (λ (l : List Candidate). resultOf l) (rw e at (done .2))
 
 -- what owning picked places tells: their array has 8 elements
 pub eight : (r : Picked) (vs : List Val) → Is (rowOf the-type) r vs → length (r .at) ≡ 8
@@ -255,6 +272,14 @@ module _ (x : Reference) (fine query : Bands) (start lower upper : Float) {f g :
   unfolding localFound
   local-one a b p q h e = rw (sym (test-is a b p q) ∙ h) (λ k. (e ∙ (λ j. candidateIn x fine query start (countOf (p j)) (countOf (q j)))) k ∷ [])
 
+  pub local-pushed : {c : Candidate} {first last : ℕ} (none r : MatchResult) → r ≡ resultOf (listed none ++ (c ∷ [])) → none ≡ resultOf []
+      → f ≡ finite lower → g ≡ finite upper → low ≡ localLow x fine query start lower → high ≡ localHigh x fine query start upper
+      → f && (g && (le lower upper && le low high)) ≡ true → c ≡ candidateIn x fine query start first last → first ≡ countOf low → last ≡ countOf high
+      → r ≡ resultOf (localFound x fine query start lower upper)
+  local-pushed {c} none r e z a b p q h best i j =
+      let same = best ∙ (λ k. candidateIn x fine query start (i k) (j k)) in
+      e ∙ ap (λ (l : List Candidate). resultOf (l ++ (c ∷ []))) (listed-result [] z) ∙ ap (λ (l : List Candidate). resultOf l) (local-one a b p q h same)
+
   pub local-none : f ≡ finite lower → g ≡ finite upper → low ≡ localLow x fine query start lower → high ≡ localHigh x fine query start upper
       → f && (g && (le lower upper && le low high)) ≡ false → [] ≡ localFound x fine query start lower upper
   unfolding localFound
@@ -279,6 +304,71 @@ query-filled x w {r} work32 work64 e same p q =
     let t : lentBands (w .bands) n work32 work64 ≡ queryOf r w = (λ i. bandsOf n (p i) (s i)) in
     subst (λ (b : ℕ). lentBands b (length (w .times) - 2 * radius (x .«hop_ms»)) work32 work64 ≡ queryOf (radius (x .«hop_ms»)) w) same
     (subst (λ (k : ℕ). lentBands (w .bands) (length (w .times) - 2 * k) work32 work64 ≡ queryOf k w) e t)
+
+-- fronts cut with n + 1 energies a band, where `lentBands` says suc n
+pub lent-is : (bands n : ℕ) (v e : List Float) → bandsOf n (take (bands * n) v) (take (bands * (n + 1)) e) ≡ lentBands bands n v e
+lent-is bands n v e = (λ i. bandsOf n (take (bands * n) v) (take (bands * add-one n i) e))
+
+-- ---- the candidate of a range
+-- by scores that stand in a buffer, and by the query's energies, which are as they were
+pub best-is : (x : Reference) (fine : Bands) (n : ℕ) (query energy : List Float) (start : Float) (low high at k : ℕ) (after part : List Float) (c : Candidate)
+    → c ≡ candidateOf x fine (bandsOf n query part) start low (take k (drop at after)) → part ≡ energy → k ≡ high - low + 1
+    → take (high - low + 1) (drop at after) ≡ correlations (x .bands) fine n query (wholeEnergies (x .bands) (bandsOf n [] energy)) low (high - low + 1)
+    → c ≡ candidateIn x fine (bandsOf n query energy) start low high
+unfolding candidateIn wholeEnergies
+best-is x fine n query energy start low high at k after part c p e f s =
+    let scores = ap (λ (j : ℕ). take j (drop at after)) f ∙ s in
+    p ∙ (λ i. candidateOf x fine (bandsOf n query (e i)) start low (scores i))
+
+-- by fronts of buffers
+pub lent-candidate : (x : Reference) (n : ℕ) (fine energy values energies : List Float) (start : Float) (low high : ℕ) (c : Candidate)
+    → c
+    ≡ candidateIn x (bandsOf (x .frames) (take (x .bands * x .frames) fine) (take (x .bands * (x .frames + 1)) energy))
+    (bandsOf n (take (x .bands * n) values) (take (x .bands * (n + 1)) energies)) start low high
+    → c ≡ candidateIn x (lentBands (x .bands) (x .frames) fine energy) (lentBands (x .bands) n values energies) start low high
+lent-candidate x n fine energy values energies start low high c p =
+    p ∙ (λ i. candidateIn x (lent-is (x .bands) (x .frames) fine energy i) (lent-is (x .bands) n values energies i) start low high)
+
+-- ---- candidates by averaged scores, peaks and rescoring
+-- the scores of the averages of a query, from averages and energies that stand in buffers
+pub averaged-is : (bands n : ℕ) (coarse : Bands) (query scores values energies : List Float)
+    → scores ≡ correlations bands coarse (n / 4) values (wholeEnergies bands (bandsOf (n / 4) [] energies)) 0 (coarse .count - n / 4 + 1)
+    → values ≡ reduced bands (bandsOf n query []) .values → energies ≡ reduced bands (bandsOf n query []) .energy
+    → scores ≡ coarseScores bands coarse (bandsOf n query [])
+unfolding coarseScores wholeEnergies
+averaged-is bands n coarse query scores values energies p a b =
+    p ∙ (λ i. correlations bands coarse (n / 4) (a i) (wholeEnergies bands (bandsOf (n / 4) [] (b i))) 0 (coarse .count - n / 4 + 1))
+
+-- the same of buffers that are longer than the bands
+pub averaged-lent : (bands n m : ℕ) (values energy query held scores : List Float)
+    → scores ≡ coarseScores bands (bandsOf m (take (bands * m) values) (take (bands * (m + 1)) energy)) (bandsOf n (take (bands * n) query) [])
+    → scores ≡ coarseScores bands (lentBands bands m values energy) (lentBands bands n query held)
+unfolding coarseScores
+averaged-lent bands n m values energy query held scores p = p ∙ (λ i. coarseScores bands (lent-is bands m values energy i) (lentBands bands n query held))
+
+-- the candidates around the peaks of the averaged scores, without those that are too near, are what a whole search finds
+pub whole-made : (x : Reference) (fine coarse query : Bands) (start : Float) (part held : Bands) (scores : List Float) {separated : ℕ} (picked : Picked) (found r : MatchResult)
+    → r ≡ resultOf (independent (listed found)) → found ≡ resultOf (sorted (candidatesAt x part held start (take (picked .count) (picked .at))))
+    → part ≡ fine → held ≡ query → picked ≡ pickedOf (peaks scores separated) → scores ≡ coarseScores (x .bands) coarse query → separated ≡ separation (x .«hop_ms»)
+    → r ≡ resultOf (wholeFound (record { reference = x; fine = fine; coarse = coarse }) query start)
+unfolding wholeFound
+whole-made x fine coarse query start part held scores {separated} picked found r e f a b p s d =
+    let at = listed-picked (peaks scores separated) p ∙ (λ i. peaks (s i) (d i)) in
+    e
+    ∙ ap (λ (l : List Candidate). resultOf (independent l))
+    (listed-result (sorted (candidatesAt x part held start (take (picked .count) (picked .at)))) f ∙ (λ i. sorted (candidatesAt x (a i) (b i) start (at i))))
+
+-- what filling answers and leaves where the window is searchable
+pub searchable-true : (x : Reference) (w : Features) (t : Bool) → t ≡ searchable x w → not t ≡ false → searchable x w ≡ true
+searchable-true x w t e h = sym e ∙ not-false t h
+
+pub query-told : (x : Reference) (w : Features) (work32 work64 : List Float) (t : Bool) {r : ℕ} → t ≡ searchable x w → not t ≡ false → r ≡ radius (x .«hop_ms»)
+    → take (w .bands * (length (w .times) - 2 * r)) work32 ≡ queryValues r (w .bands) (length (w .times)) (w .values)
+    → take (w .bands * (length (w .times) - 2 * r + 1)) work64 ≡ allEnergies (w .bands) (length (w .times) - 2 * r) (queryValues r (w .bands) (length (w .times)) (w .values))
+    → FilledQuery x w true work32 work64
+query-told x w work32 work64 t e h p q s =
+    let test = searchable-true x w t e h in
+    record { told = sym test; query = λ _. query-filled x w work32 work64 p (searchable-room x w test .0) q s }
 
 -- what is found by the filled query of a searchable window is what a search of the window finds
 pub whole-answer : (m : Matcher) (w : Features) {r : ℕ} {found : MatchResult} (work32 work64 : List Float) → searchable (m .reference) w ≡ true → r ≡ radius (m .reference .«hop_ms»)
@@ -311,6 +401,14 @@ still-filled x w work32 work64 after e s f =
 few-of : (t : Bool) (a b : List Candidate) (n : ℕ) → length a ≤ n → length b ≤ n → length (cond t a b) ≤ n
 few-of true a b n p q = p
 few-of false a b n p q = q
+
+length-insert : (c : Candidate) (l : List Candidate) → length (insert c l) ≤ suc (length l)
+unfolding insert
+length-insert c [] = omega arith
+length-insert c (d ∷ l) = few-of (lt (d .score) (c .score)) (c ∷ d ∷ l) (d ∷ insert c l) (suc (length (d ∷ l))) (omega arith) (omega (arith, length-insert c l))
+
+pub inserted-count : (found : MatchResult) (c : Candidate) {r : MatchResult} → r ≡ resultOf (insert c (listed found)) → r .count ≤ found .count + 1
+inserted-count found c e = rw e (omega (arith, length-insert c (listed found), length-take (found .count) (found .candidates)))
 
 -- leaving out those that are too near leaves no more
 fewer : (done l : List Candidate) → length (independentFrom done l) ≤ length done + length l

@@ -1,5 +1,8 @@
 // The matcher: fills an index from a reference and searches it for a window's place. Its functions
 // equal the definitions of specs/, which are written from document 01, and rest on what
 // matcher_bands, matcher_scores, matcher_picks and numbers state.
+mod candidate;
 pub mod index;
-pub mod search;
+pub mod local;
+pub mod query;
+pub mod whole;

@@ -1,1 +1,2 @@
 pub mod PeakLaws
+pub mod ResultLaws

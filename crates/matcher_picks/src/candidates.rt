@@ -1,5 +1,5 @@
 // Candidates: their order, the 750 rule, the result and its margin.
-ghost use Prim.Native.Nat.{_+_, _<_, _≤_};
+ghost use Prim.Native.Nat.{_<_, _≤_};
 ghost use mathlib.Core.List.{[], _∷_, _++_};
 ghost use mathlib.Core.Path.{_≡_};
 ghost use Rattle.matcher_spec.specs.Candidates.{blank, crowded, independent, insert, listed, marginOf, resultOf};
@@ -8,6 +8,16 @@ use matcher_spec::limits::CANDIDATES_MOST;
 use matcher_spec::types::Candidate;
 use matcher_spec::types::MatchResult;
 use numbers::float::abs;
+
+// No candidates.
+pub fn nothing_found() -> MatchResult
+    ensures { λ r. ⌜ r ≡ resultOf [] ⌝ }
+{
+    MatchResult {
+        candidates: [blank(); CANDIDATES_MOST],
+        count: 0,
+    }
+}
 
 // What stands behind the last candidate.
 fn blank() -> Candidate
@@ -22,21 +32,24 @@ fn blank() -> Candidate
     }
 }
 
-// No candidates.
-pub fn nothing_found() -> MatchResult
-    ensures { λ r. ⌜ r ≡ resultOf [] ⌝ }
+// The result with c behind its last.
+pub fn push(result: MatchResult, c: Candidate) -> MatchResult
+    requires { ⌜ result .count < candidatesMost ⌝ ∗ ⌜ result ≡ resultOf (listed result) ⌝ }
+    ensures { λ r. ⌜ r ≡ resultOf (listed result ++ (c ∷ [])) ⌝ }
 {
+    let n = result.count;
+    let mut candidates = result.candidates;
+    candidates[n] = c;
     MatchResult {
-        candidates: [blank(); CANDIDATES_MOST],
-        count: 0,
+        candidates,
+        count: n + 1,
     }
 }
 
 // The result with c put before the first candidate that scores lower.
 pub fn insert_by_score(result: MatchResult, c: Candidate) -> MatchResult
-    requires { ⌜ result .count < candidatesMost ⌝ }
-    ensures { λ r. ⌜ r .count ≡ result .count + 1 ⌝ }
-    ensures { λ r. ⌜ listed r ≡ insert c (listed result) ⌝ }
+    requires { ⌜ result .count < candidatesMost ⌝ ∗ ⌜ result ≡ resultOf (listed result) ⌝ }
+    ensures { λ r. ⌜ r ≡ resultOf (insert c (listed result)) ⌝ }
 {
     let n = result.count;
     let mut candidates = result.candidates;
@@ -53,38 +66,6 @@ pub fn insert_by_score(result: MatchResult, c: Candidate) -> MatchResult
         i += 1;
     }
     candidates[n] = held;
-    MatchResult {
-        candidates,
-        count: n + 1,
-    }
-}
-
-// Whether c is nearer than 750 to a candidate of the result.
-fn is_crowded(result: MatchResult, c: Candidate) -> bool
-    requires { ⌜ result .count ≤ candidatesMost ⌝ }
-    ensures { λ r. ⌜ r ≡ crowded (listed result) c ⌝ }
-{
-    let n = result.count;
-    let candidates = result.candidates;
-    let mut i = 0usize;
-    while i < n {
-        let other = candidates[i];
-        if abs(other.offset_ms - c.offset_ms) < 750.0 {
-            return true;
-        }
-        i += 1;
-    }
-    false
-}
-
-// The result with c behind its last.
-pub fn push(result: MatchResult, c: Candidate) -> MatchResult
-    requires { ⌜ result .count < candidatesMost ⌝ ∗ ⌜ result ≡ resultOf (listed result) ⌝ }
-    ensures { λ r. ⌜ r ≡ resultOf (listed result ++ (c ∷ [])) ⌝ }
-{
-    let n = result.count;
-    let mut candidates = result.candidates;
-    candidates[n] = c;
     MatchResult {
         candidates,
         count: n + 1,
@@ -108,6 +89,24 @@ pub fn keep_independent(sorted: MatchResult) -> MatchResult
         i += 1;
     }
     kept
+}
+
+// Whether c is nearer than 750 to a candidate of the result.
+fn is_crowded(result: MatchResult, c: Candidate) -> bool
+    requires { ⌜ result .count ≤ candidatesMost ⌝ }
+    ensures { λ r. ⌜ r ≡ crowded (listed result) c ⌝ }
+{
+    let n = result.count;
+    let candidates = result.candidates;
+    let mut i = 0usize;
+    while i < n {
+        let other = candidates[i];
+        if abs(other.offset_ms - c.offset_ms) < 750.0 {
+            return true;
+        }
+        i += 1;
+    }
+    false
 }
 
 // The best score less the second; a lone candidate's is its own score, none gives 0.

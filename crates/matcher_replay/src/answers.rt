@@ -13,8 +13,8 @@ use crate::digest;
 use crate::sound;
 use hexadecimal::word_at;
 use matcher::index::fill_index;
-use matcher::search::local_search;
-use matcher::search::whole_search;
+use matcher::local::local_search;
+use matcher::whole::whole_search;
 use matcher_spec::types::Reference;
 
 // What a case needs of a reference, its index, a window, and of buffers to work in.

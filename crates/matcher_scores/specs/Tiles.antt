@@ -1,9 +1,17 @@
--- Lanes of a row of places. Definitions only.
+-- Places by tiles and blocks, and lanes of a row of places. Definitions only.
 use Prim.Native.Nat.{ℕ}
 use mathlib.Core.List.{List}
 use lib.ListN.{length, take, drop}
 use lib.Ieee.{Float}
 use Rattle.matcher_spec.specs.Scores.{lane}
+
+-- So many places are worked on at once: their sums fill the vector registers.
+abbrev pub tile : ℕ
+tile = 24
+
+-- A block has at most so many places, a whole number of tiles.
+abbrev pub block : ℕ
+block = 120
 
 -- Lane j of the dot product at place p of a row, after n chunks of eight.
 abbrev pub laneAt : List Float → List Float → ℕ → ℕ → ℕ → Float

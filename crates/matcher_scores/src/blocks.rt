@@ -6,36 +6,35 @@ ghost use lib.Ieee.{nan};
 ghost use lib.ListN.{getD, length};
 ghost use mathlib.Core.Path.{_≡_};
 ghost use Rattle.numbers_spec.specs.Rows.{tabulate};
+ghost use Rattle.matcher_scores.specs.Tiles.{block};
 ghost use Rattle.matcher_spec.specs.Scores.{bandTerm};
 ghost use Rattle.numbers_spec.specs.Arithmetic.{_⊕_, _⊖_, _⊗_, _⊘_, atLeast};
+use crate::tiles::TILE;
 use crate::tiles::dots;
 use numbers::float::at_least;
 use numbers::float::widen;
 use numbers_rows::root_row::root_row;
 
-// What stands under the root at each place: the query's energy times the reference's over `count`
-// frames.
-fn fill_products(products: &mut [f64], energy: &[f64], count: usize, floor: f64, whole: f64)
-    requires { ⌜ length (now products) + count ≤ length (now energy) ⌝ }
-    ensures { λ _. ⌜ now (products .exit) ≡ tabulate (λ (i : ℕ). whole ⊗ atLeast floor (getD (now (energy .entry)) (i + count) nan ⊖ getD (now (energy .entry)) i nan)) (length (now (products .entry))) ⌝ }
+// The most places of a block: few enough that the working rows stay in the nearest cache, and a
+// whole number of tiles.
+pub const BLOCK: usize = 120;
+
+// Where the block that begins at i ends, of n places.
+pub fn block_end(i: usize, n: usize) -> usize
+    requires { ⌜ i < n ⌝ }
+    ensures { λ r. ⌜ (i < r) × (r ≤ n) × (r ≤ i + block) ⌝ }
 {
-    let mut i = 0usize;
-    while i < products.len() {
-        products[i] = whole * at_least(floor, energy[i + count] - energy[i]);
-        i += 1;
-    }
+    if n - i < BLOCK { n } else { i + BLOCK }
 }
 
-// Adds each dot product over its root.
-fn add_quotients(scores: &mut [f64], dotted: &[f32], roots: &[f64])
-    requires { ⌜ length (now scores) ≤ length (now dotted) ⌝ ∗ ⌜ length (now scores) ≤ length (now roots) ⌝ }
-    ensures { λ _. ⌜ now (scores .exit) ≡ tabulate (λ (i : ℕ). getD (now (scores .entry)) i nan ⊕ (getD (now (dotted .entry)) i nan ⊘ getD (now (roots .entry)) i nan)) (length (now (scores .entry))) ⌝ }
+// m, or the next multiple of a tile where a row of `frames` has so many places from `at` on.
+pub fn padded(m: usize, at: usize, count: usize, frames: usize) -> usize
+    requires { ⌜ 0 < m ⌝ ∗ ⌜ m ≤ block ⌝ ∗ ⌜ at + m + count ≤ frames + 1 ⌝ }
+    ensures { λ r. ⌜ (m ≤ r) × (r ≤ block) × (at + r + count ≤ frames + 1) ⌝ }
 {
-    let mut i = 0usize;
-    while i < scores.len() {
-        scores[i] = scores[i] + widen(dotted[i]) / roots[i];
-        i += 1;
-    }
+    let full = (m + TILE - 1) / TILE * TILE;
+    let spare = frames - (at + (m - 1) + count);
+    if full - m <= spare { full } else { m }
 }
 
 // Adds what a band adds to the scores of a block of places. The reference and its energies begin at
@@ -62,25 +61,27 @@ pub fn add_block(
     add_quotients(scores, dotted, roots);
 }
 
-// The most places of a block: few enough that the working rows stay in the nearest cache, and a
-// multiple of the 24 that `dots` takes at once.
-pub const BLOCK: usize = 120;
-
-// Where the block that begins at i ends, of n places.
-pub fn block_end(i: usize, n: usize) -> usize
-    requires { ⌜ i < n ⌝ }
-    ensures { λ r. ⌜ (i < r) × (r ≤ n) × (r ≤ i + 120) ⌝ }
+// What stands under the root at each place: the query's energy times the reference's over `count`
+// frames.
+fn fill_products(products: &mut [f64], energy: &[f64], count: usize, floor: f64, whole: f64)
+    requires { ⌜ length (now products) + count ≤ length (now energy) ⌝ }
+    ensures { λ _. ⌜ now (products .exit) ≡ tabulate (λ (i : ℕ). whole ⊗ atLeast floor (getD (now (energy .entry)) (i + count) nan ⊖ getD (now (energy .entry)) i nan)) (length (now (products .entry))) ⌝ }
 {
-    if n - i < BLOCK { n } else { i + BLOCK }
+    let mut i = 0usize;
+    while i < products.len() {
+        products[i] = whole * at_least(floor, energy[i + count] - energy[i]);
+        i += 1;
+    }
 }
 
-// m, or the next multiple of the 24 places that `dots` takes at once, where a row of `frames` has so
-// many places from `at` on.
-pub fn padded(m: usize, at: usize, count: usize, frames: usize) -> usize
-    requires { ⌜ 0 < m ⌝ ∗ ⌜ m ≤ 120 ⌝ ∗ ⌜ at + m + count ≤ frames + 1 ⌝ }
-    ensures { λ r. ⌜ (m ≤ r) × (r ≤ 120) × (at + r + count ≤ frames + 1) ⌝ }
+// Adds each dot product over its root.
+fn add_quotients(scores: &mut [f64], dotted: &[f32], roots: &[f64])
+    requires { ⌜ length (now scores) ≤ length (now dotted) ⌝ ∗ ⌜ length (now scores) ≤ length (now roots) ⌝ }
+    ensures { λ _. ⌜ now (scores .exit) ≡ tabulate (λ (i : ℕ). getD (now (scores .entry)) i nan ⊕ (getD (now (dotted .entry)) i nan ⊘ getD (now (roots .entry)) i nan)) (length (now (scores .entry))) ⌝ }
 {
-    let full = (m + 23) / 24 * 24;
-    let spare = frames - (at + (m - 1) + count);
-    if full - m <= spare { full } else { m }
+    let mut i = 0usize;
+    while i < scores.len() {
+        scores[i] = scores[i] + widen(dotted[i]) / roots[i];
+        i += 1;
+    }
 }

@@ -25,7 +25,7 @@ returns-2 c =
     let q = c .before .before .before .before .before .before .before .before in
     let p = q .before .before .before in
     let e = passed (p .before .fits-local .ensures) (p .if1 .left) in
-    (rw (e, q .local-search .ensures), rw (e, c .before .before .write-candidates .ensures, q .local-search .ensures))
+    (rw (e, q .local-search .ensures .0), rw (e, c .before .before .write-candidates .ensures, q .local-search .ensures .0))
 
 pub matcher-local-search-spec : {M : Type 1} → statement M
 matcher-local-search-spec =

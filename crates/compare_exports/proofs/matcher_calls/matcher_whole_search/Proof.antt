@@ -44,7 +44,7 @@ returns-3 c =
     let p = q .before .before in
     let e = passed (p .before .fits-local .ensures) (p .if1 .left) in
     let f = passed (q .before .fits-bands .ensures) (q .if2 .left) in
-    (rw (e, f, s .whole-search .ensures), rw (e, f, c .before .before .write-candidates .ensures, s .whole-search .ensures))
+    (rw (e, f, s .whole-search .ensures .0), rw (e, f, c .before .before .write-candidates .ensures, s .whole-search .ensures .0))
 
 pub matcher-whole-search-spec : {M : Type 1} → statement M
 matcher-whole-search-spec =

@@ -5,7 +5,7 @@ use Prim.Native.Nat.{_+_, _*_, _/_}
 use native.Mathlib.Omega.{arith}
 use mathlib.Core.List.{List, _++_}
 use lib.Ieee.{Float}
-use lib.ListN.{drop, length-take}
+use lib.ListN.{take, drop, length-take}
 use Rattle.matcher_spec.specs.Energy.{allAverages, allEnergies}
 use Rattle.matcher.proofs.SearchLaws.{front-is}
 use Rattle.matcher.proofs.index.fill_coarse.Statement.{statement}
@@ -24,9 +24,9 @@ returns c =
     let size = a .n / 4 in
     let averages = allAverages (a .bands) (a .n) (a .fine .now) in (
       at .reduce-bands .ensures,
-      c .before .before .fill-energies .ensures
-          ∙ ap (λ (l : List Float). allEnergies (a .bands) size l ++ drop (a .bands * (size + 1)) (a .energy .now))
-          (front-is averages (a .coarse .now) (a .bands * size) (at .reduce-bands .ensures) (at .reduce-bands .kept .0) (omega arith)),
+      _∙_ {b = allEnergies (a .bands) size (take (a .bands * size) (at .reduce-bands .last .0)) ++ drop (a .bands * (size + 1)) (a .energy .now)} (c .before .before .fill-energies .ensures)
+          (ap (λ (l : List Float). allEnergies (a .bands) size l ++ drop (a .bands * (size + 1)) (a .energy .now))
+          (front-is averages (a .coarse .now) (a .bands * size) (at .reduce-bands .ensures) (at .reduce-bands .kept .0) (omega arith))),
     )
 
 pub fill-coarse-spec : {M : Type 1} → statement M

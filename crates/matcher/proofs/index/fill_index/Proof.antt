@@ -6,7 +6,7 @@ use native.Mathlib.Omega.{arith}
 use mathlib.Core.List.{List, _++_}
 use borrow.Author.Tests.{not-true, not-false}
 use lib.Ieee.{Float}
-use lib.ListN.{length, drop, length-take}
+use lib.ListN.{take, length, drop, length-take}
 use Rattle.matcher_spec.specs.Centring.{radius}
 use Rattle.matcher_spec.specs.Energy.{allAverages, allEnergies}
 use Rattle.matcher_spec.specs.Index.{fineValues, matcherOf}
@@ -45,20 +45,22 @@ returns-2 c =
     let v : List Float = a .values .now in
     let r = at .before .radius .ensures in
     let f : List Float = fineValues (radius (a .hop)) bands n v in
-    let fine = at .fill-fine .ensures .0 ∙ ap (λ (k : ℕ). fineValues k bands n v ++ drop (bands * n) (a .fine .now)) r in
-    let energy = at .fill-fine .ensures .1 ∙ ap (λ (k : ℕ). allEnergies bands n (fineValues k bands n v) ++ drop (bands * (n + 1)) (a .fine-energy .now)) r in
+    let taken : List Float = take (bands * n) (at .fill-fine .last .0) in
+    let rule : ℕ → List Float = λ k. fineValues k bands n v in
+    let fine = _∙_ {b = rule (at .before .radius .result) ++ drop (bands * n) (a .fine .now)} (at .fill-fine .ensures .0) (ap (λ (k : ℕ). rule k ++ drop (bands * n) (a .fine .now)) r) in
+    let energy = _∙_ {b = allEnergies bands n (rule (at .before .radius .result)) ++ drop (bands * (n + 1)) (a .fine-energy .now)} (at .fill-fine .ensures .1) (ap (λ (k : ℕ). allEnergies bands n (rule k) ++ drop (bands * (n + 1)) (a .fine-energy .now)) r) in
     let whole = front-is f (a .fine .now) (bands * n) fine (at .fill-fine .kept .0) (omega arith) in (
       sym (sym (begun .before .accepts-reference .ensures) ∙ not-false _ (begun .if1 .left)),
       (
         front-filled f (a .fine .now) (bands * n) fine (at .fill-fine .kept .0) (omega arith),
         (
           front-filled (allAverages bands n f) (a .coarse .now) (bands * (n / 4))
-              (done .fill-coarse .ensures .0 ∙ ap (λ (l : List Float). allAverages bands n l ++ drop (bands * (n / 4)) (a .coarse .now)) whole)
+              (_∙_ {b = allAverages bands n taken ++ drop (bands * (n / 4)) (a .coarse .now)} (done .fill-coarse .ensures .0) (ap (λ (l : List Float). allAverages bands n l ++ drop (bands * (n / 4)) (a .coarse .now)) whole))
               (done .fill-coarse .kept .0) (omega arith),
           (
             front-filled (allEnergies bands n f) (a .fine-energy .now) (bands * (n + 1)) energy (at .fill-fine .kept .1 .0) (omega arith),
             front-filled (allEnergies bands (n / 4) (allAverages bands n f)) (a .coarse-energy .now) (bands * (n / 4 + 1))
-                (done .fill-coarse .ensures .1 ∙ ap (λ (l : List Float). allEnergies bands (n / 4) (allAverages bands n l) ++ drop (bands * (n / 4 + 1)) (a .coarse-energy .now)) whole)
+                (_∙_ {b = allEnergies bands (n / 4) (allAverages bands n taken) ++ drop (bands * (n / 4 + 1)) (a .coarse-energy .now)} (done .fill-coarse .ensures .1) (ap (λ (l : List Float). allEnergies bands (n / 4) (allAverages bands n l) ++ drop (bands * (n / 4 + 1)) (a .coarse-energy .now)) whole))
                 (done .fill-coarse .kept .1 .0) (omega arith),
           ),
         ),

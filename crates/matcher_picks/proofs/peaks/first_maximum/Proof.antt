@@ -39,10 +39,10 @@ loop-again c =
 
 returns : tie.Need-returns Inv-loop μ-loop
 returns c =
-    let at = c .before in
+    let at = c .before .before in
     let s = at .before .args .scores .now in
     let e : at .loop .i ≡ length s = omega arith in
-    (at .loop .inv .2 ∙ ap (maximumTo s) e, omega arith)
+    (at .loop .inv .2 ∙ ap (maximumTo s) e, (refl, omega arith))
 
 pub first-maximum-spec : {M : Type 1} → statement M
 first-maximum-spec =
@@ -58,4 +58,6 @@ first-maximum-spec =
     (λ c. omega arith)
     (λ c. omega arith)
     loop-again
+    (λ c. omega arith)
+    (λ c. omega arith)
     returns)

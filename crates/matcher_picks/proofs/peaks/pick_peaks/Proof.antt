@@ -1,16 +1,17 @@
--- `matcher_picks::peaks::pick_peaks` meets its contract. The loop's invariant: to go on from the places taken gives what the contract says, and all entries are within the number of scores. Assumes nothing.
+-- `matcher_picks::peaks::pick_peaks` meets its contract. The loop's invariant: to go on from the places taken gives what the contract says, and all entries are within the number of scores, with zeros behind. Assumes nothing.
 use mathlib.Core.Path.{_≡_, refl, sym, ap, _∙_}
 use Prim.Native.Nat.{ℕ, suc, _+_, _-_, _≤_}
 use native.Mathlib.Numerals.{add-one}
 use native.Mathlib.Omega.{arith}
 use borrow.Author.Needs.{needs}
 use mathlib.Core.List.{List, [], _∷_, _++_}
-use lib.ListN.{length, take, length-set}
-use lib.Seq.{take-suc-set, length-take-le}
+use lib.ListN.{length, take, drop, replicate, length-set}
+use lib.Seq.{take-suc-set, length-take-le, drop-set-lt, drop-drop}
 use lib.Ieee.{Float}
 use borrow.Author.Tests.{eq-eqb, ne-eqb}
 use Rattle.matcher_spec.specs.Peaks.{bestFree, peaksFrom}
 use Rattle.matcher_picks.proofs.PeakLaws.{AllWithin, zeros-within, set-within}
+use Rattle.matcher_picks.proofs.ResultLaws.{picked-is, zeros-less}
 use Rattle.matcher_picks.proofs.peaks.pick_peaks.Statement.{statement}
 use Rattle.matcher_picks.proofs.peaks.pick_peaks.Tie as tie
 
@@ -24,13 +25,13 @@ unfolding peaksFrom
 more s separation k taken b p h = rw (← p, ne-eqb _ _ h)
 
 abbrev Inv-loop : tie.InvT-loop
-Inv-loop scores separation at₀ n₀ at n = (n ≤ 8) × (length at ≡ 8) × (peaksFrom scores separation (8 - n) (take n at) ≡ peaksFrom scores separation 8 []) × AllWithin (length scores) at
+Inv-loop scores separation at₀ n₀ at n = (n ≤ 8) × (length at ≡ 8) × (peaksFrom scores separation (8 - n) (take n at) ≡ peaksFrom scores separation 8 []) × AllWithin (length scores) at × (drop n at ≡ replicate (8 - n) 0)
 
 abbrev μ-loop : tie.MeasureT-loop
 μ-loop scores separation at₀ n₀ at n = 8 - n
 
 loop-holds : tie.Need-loop-holds Inv-loop μ-loop
-loop-holds c = (omega arith, refl, refl, zeros-within _ 8)
+loop-holds c = (omega arith, refl, refl, zeros-within _ 8, refl)
 
 slice-aggregate-best-free : tie.Need-slice-aggregate-best-free Inv-loop μ-loop
 slice-aggregate-best-free c = sym (length-take-le _ _ (omega arith))
@@ -41,7 +42,8 @@ returns c =
     let a = at .before .before .args in
     let n = at .loop .n in
     let e : 8 - n ≡ suc (7 - n) = omega arith in
-    (omega arith, (sym (stop (a .scores .now) (a .separation) (7 - n) (take n (at .loop .at)) (sym (c .before .best-free .ensures .0) ∙ c .if1 .taken)) ∙ rw e at (at .loop .inv .2), at .loop .inv .3))
+    let all = sym (stop (a .scores .now) (a .separation) (7 - n) (take n (at .loop .at)) (sym (c .before .best-free .ensures .0) ∙ c .if1 .taken)) ∙ rw e at (at .loop .inv .2) in
+    (picked-is (at .loop .at) _ n (omega arith) all (at .loop .inv .4), (omega arith, at .loop .inv .3))
 
 loop-again : tie.Need-loop-again Inv-loop μ-loop
 loop-again c =
@@ -57,6 +59,7 @@ loop-again c =
           ∙ sym (more (a .scores .now) (a .separation) (8 - (n + 1)) (take n l) b (c .before .best-free .ensures .0) (c .if1 .left))
           ∙ rw e at (at .loop .inv .2),
       set-within _ l n b (at .loop .inv .3) (c .before .best-free .ensures .1),
+      drop-set-lt (n + 1) l n b (omega arith) ∙ sym (drop-drop 1 n l) ∙ zeros-less 0 n (drop n l) (omega arith) (at .loop .inv .4),
     )
 
 returns-2 : tie.Need-returns-2 Inv-loop μ-loop
@@ -64,7 +67,7 @@ unfolding peaksFrom
 returns-2 c =
     let at = c .before in
     let e : 8 - at .loop .n ≡ 0 = omega arith in
-    (omega arith, (rw e at (at .loop .inv .2), at .loop .inv .3))
+    (picked-is (at .loop .at) _ (at .loop .n) (omega arith) (rw e at (at .loop .inv .2)) (at .loop .inv .4), (omega arith, at .loop .inv .3))
 
 pub pick-peaks-spec : {M : Type 1} → statement M
 pick-peaks-spec =

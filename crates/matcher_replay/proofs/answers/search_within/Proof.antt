@@ -27,9 +27,9 @@ returns c =
     let known = searched (a .case) (a .fine .now) (a .coarse .now) (a .fine-energy .now) (a .coarse-energy .now) (a .times .now) (a .values .now) in
     known
     (c .before .before .digest-of-index .ensures)
-    (c .before .before .before .before .before .before .before .before .before .before .before .before .before .before .before .before .before .before .whole-search .ensures)
+    (c .before .before .before .before .before .before .before .before .before .before .before .before .before .before .before .before .before .before .whole-search .ensures .0)
     (c .before .of-result .ensures)
-    (located (a .case) (a .fine .now) (a .coarse .now) (a .fine-energy .now) (a .coarse-energy .now) (a .times .now) (a .values .now) (c .before .before .before .before .before .before .before .before .before .before .before .before .before .real .ensures) (c .before .before .before .before .before .before .before .local-search .ensures))
+    (located (a .case) (a .fine .now) (a .coarse .now) (a .fine-energy .now) (a .coarse-energy .now) (a .times .now) (a .values .now) (c .before .before .before .before .before .before .before .before .before .before .before .before .before .real .ensures) (c .before .before .before .before .before .before .before .local-search .ensures .0))
     (c .of-result2 .ensures)
 
 pub search-within-spec : {M : Type 1} → statement M

@@ -6,6 +6,7 @@ use native.Mathlib.Omega.{arith}
 use lib.ListN.{length, length-take, length-drop}
 use lib.Seq.{length-take-le}
 use Rattle.numbers_spec.proofs.RowLaws.{Filling, filling-none, filling-all}
+use Rattle.matcher_scores.specs.Tiles.{block}
 use Rattle.matcher_scores.proofs.BlockLaws.{added, block-more}
 use Rattle.matcher_scores.proofs.scores.add_band.Statement.{statement}
 use Rattle.matcher_scores.proofs.scores.add_band.Tie as tie
@@ -13,7 +14,7 @@ use Rattle.matcher_scores.proofs.scores.add_band.Tie as tie
 abbrev Inv-loop : tie.InvT-loop
 Inv-loop scores₀ reference energy query floor whole low dotted₀ products₀ roots₀ i₀ scores dotted products roots i =
     Filling (added reference energy query floor whole scores₀ low) scores₀ i scores
-    × (length dotted ≡ 120) × (length products ≡ 120) × (length roots ≡ 120)
+    × (length dotted ≡ block) × (length products ≡ block) × (length roots ≡ block)
 
 abbrev μ-loop : tie.MeasureT-loop
 μ-loop scores₀ reference energy query floor whole low dotted₀ products₀ roots₀ i₀ scores dotted products roots i = length scores₀ - i

@@ -4,13 +4,14 @@ use Prim.Native.Nat.{ℕ, _+_, _-_, _≤_}
 use native.Mathlib.Numerals.{add-one}
 use native.Mathlib.Omega.{arith}
 use mathlib.Core.List.{List}
-use lib.ListN.{length}
+use lib.ListN.{length, getD}
 use lib.Ieee.{Float, nan}
 use Rattle.numbers_spec.specs.Arithmetic.{_⊕_, zero⁺}
 use Rattle.numbers_spec.specs.Rows.{tabulate, sumTo}
 use Rattle.matcher_spec.specs.Energy.{Bands, bandsOf}
 use Rattle.matcher_spec.specs.Scores.{termAt}
 use Rattle.numbers_spec.proofs.RowLaws.{tabulate-then, row-within}
+use Rattle.matcher_scores.specs.Tiles.{block}
 use Rattle.matcher_scores.proofs.scores.sum_bands.Statement.{statement}
 use Rattle.matcher_scores.proofs.scores.sum_bands.Tie as tie
 
@@ -18,10 +19,16 @@ use Rattle.matcher_scores.proofs.scores.sum_bands.Tie as tie
 abbrev sums : Bands → ℕ → List Float → List Float → ℕ → ℕ → ℕ → List Float
 sums reference count query whole low b n = tabulate (λ (i : ℕ). sumTo (termAt reference count query whole (low + i)) b) n
 
+-- one more band at each place
+sums-more : (t : ℕ → ℕ → Float) (b n : ℕ) (old new : List Float) → new ≡ tabulate (λ (i : ℕ). getD old i nan ⊕ t i b) (length old)
+    → old ≡ tabulate (λ (i : ℕ). sumTo (t i) b) n → new ≡ tabulate (λ (i : ℕ). sumTo (t i) (b + 1)) n
+unfolding sumTo
+sums-more t b n old new p q = p ∙ rw add-one (tabulate-then (λ (i : ℕ). sumTo (t i) b) (λ (i : ℕ) (s : Float). s ⊕ t i b) nan n q)
+
 abbrev Inv-loop : tie.InvT-loop
 Inv-loop scores₀ reference energy frames query whole count bands low dotted₀ products₀ roots₀ b₀ scores dotted products roots b =
     (b ≤ bands) × (length scores ≡ length scores₀) × (scores ≡ sums (bandsOf frames reference energy) count query whole low b (length scores₀))
-    × (length dotted ≡ 120) × (length products ≡ 120) × (length roots ≡ 120)
+    × (length dotted ≡ block) × (length products ≡ block) × (length roots ≡ block)
 
 abbrev μ-loop : tie.MeasureT-loop
 μ-loop scores₀ reference energy frames query whole count bands low dotted₀ products₀ roots₀ b₀ scores dotted products roots b = bands - b
@@ -46,7 +53,6 @@ add-nth-requires c κs =
     )
 
 loop-again : tie.Need-loop-again Inv-loop μ-loop
-unfolding sumTo
 loop-again c =
     let added = c .before .before .before .before .before in
     let at = added .before .before .before .before .before .before in
@@ -57,11 +63,11 @@ loop-again c =
     let rows = v .kept .1 .1 .1 .1 .1 .1 .1 .1 .1 in
     let t : ℕ → ℕ → Float = λ i. termAt (bandsOf (a .frames) (a .reference .now) (a .energy .now)) (a .count) (a .query .now) (a .whole .now) (a .low + i) in (
       omega arith,
-      v .kept .0 ∙ inv .1,
-      v .ensures ∙ rw add-one (tabulate-then (λ (i : ℕ). sumTo (t i) b) (λ (i : ℕ) (s : Float). s ⊕ t i b) nan _ (inv .2)),
-      rows .0 ∙ inv .3,
-      rows .1 .0 ∙ inv .4,
-      rows .1 .1 .0 ∙ inv .5,
+      _∙_ {b = length (at .loop .scores)} (v .kept .0) (inv .1),
+      sums-more t b (length (at .before .before .before .clear .last .0)) (at .loop .scores) (v .last .0) (v .ensures) (inv .2),
+      _∙_ {b = length (at .loop .dotted)} (rows .0) (inv .3),
+      _∙_ {b = length (at .loop .products)} (rows .1 .0) (inv .4),
+      _∙_ {b = length (at .loop .roots)} (rows .1 .1 .0) (inv .5),
     )
 
 same-length : tie.Need-same-length Inv-loop μ-loop

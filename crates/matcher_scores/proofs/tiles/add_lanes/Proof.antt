@@ -1,11 +1,11 @@
--- `matcher_scores::tiles::add_lanes` meets its contract. The loop's invariant: the two rows are the lanes of the twelve places after k chunks. Assumes nothing.
+-- `matcher_scores::tiles::add_lanes` meets its contract. The loop's invariant: the two rows are the lanes of a tile's places after k chunks. Assumes nothing.
 use mathlib.Core.Path.{_≡_, refl}
 use Prim.Native.Nat.{ℕ, _+_, _-_, _≤_}
 use native.Mathlib.Omega.{arith}
 use borrow.Author.Needs.{needs}
 use Rattle.numbers_spec.specs.Rows.{tabulate}
 use Rattle.matcher_spec.specs.Scores.{lane}
-use Rattle.matcher_scores.specs.Tiles.{laneAt}
+use Rattle.matcher_scores.specs.Tiles.{laneAt, tile}
 use Rattle.matcher_scores.proofs.PartLaws.{row-length}
 use Rattle.matcher_scores.proofs.TileLaws.{lane-row-more, added-twice}
 use Rattle.matcher_scores.proofs.tiles.add_lanes.Statement.{statement}
@@ -13,7 +13,7 @@ use Rattle.matcher_scores.proofs.tiles.add_lanes.Tie as tie
 
 abbrev Inv-loop : tie.InvT-loop
 Inv-loop sums row query j chunks one₀ two₀ k₀ one two k =
-    (k ≤ chunks) × (one ≡ tabulate (λ (p : ℕ). laneAt row query p j k) 24) × (two ≡ tabulate (λ (p : ℕ). laneAt row query p (j + 1) k) 24)
+    (k ≤ chunks) × (one ≡ tabulate (λ (p : ℕ). laneAt row query p j k) tile) × (two ≡ tabulate (λ (p : ℕ). laneAt row query p (j + 1) k) tile)
 
 abbrev μ-loop : tie.MeasureT-loop
 μ-loop sums row query j chunks one₀ two₀ k₀ one two k = chunks - k
@@ -23,10 +23,10 @@ unfolding lane tabulate
 loop-holds c = (omega arith, refl, refl)
 
 add-scaled-requires : tie.Need-add-scaled-requires Inv-loop μ-loop
-add-scaled-requires c κs = (row-length _ 24 (c .before .before .before .loop .inv .1), omega arith)
+add-scaled-requires c κs = (row-length _ tile (c .before .before .before .loop .inv .1), omega arith)
 
 add-scaled-requires-2 : tie.Need-add-scaled-requires-2 Inv-loop μ-loop
-add-scaled-requires-2 c κs = (row-length _ 24 (c .before .before .before .before .before .before .loop .inv .2), omega arith)
+add-scaled-requires-2 c κs = (row-length _ tile (c .before .before .before .before .before .before .loop .inv .2), omega arith)
 
 loop-again : tie.Need-loop-again Inv-loop μ-loop
 loop-again c =
@@ -43,7 +43,7 @@ add-all-requires : tie.Need-add-all-requires Inv-loop μ-loop
 add-all-requires c κs = search needs
 
 add-all-requires-2 : tie.Need-add-all-requires-2 Inv-loop μ-loop
-add-all-requires-2 c κs = row-length _ 24 (c .before .before .add-all .ensures)
+add-all-requires-2 c κs = row-length _ tile (c .before .before .add-all .ensures)
 
 returns : tie.Need-returns Inv-loop μ-loop
 returns c =

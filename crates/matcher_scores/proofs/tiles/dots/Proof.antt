@@ -5,6 +5,7 @@ use native.Mathlib.Omega.{arith}
 use lib.ListN.{length, length-take, length-drop}
 use Rattle.numbers_spec.proofs.RowLaws.{Filling, filling-none, filling-more}
 use Rattle.matcher_spec.specs.Scores.{dot}
+use Rattle.matcher_scores.specs.Tiles.{tile}
 use Rattle.matcher_scores.proofs.PartLaws.{filling-of, filling-anew, filling-part}
 use Rattle.matcher_scores.proofs.TileLaws.{placed, tile-places}
 use Rattle.matcher_scores.proofs.tiles.dots.Statement.{statement}
@@ -22,15 +23,15 @@ Inv-loop2 out₀ row query at₀ out at = Filling (λ (i : ℕ). dot (placed row
 abbrev μ-loop2 : tie.MeasureT-loop2
 μ-loop2 out₀ row query at₀ out at = length out₀ - at
 
-tile-requires : tie.Need-tile-requires Inv-loop μ-loop Inv-loop2 μ-loop2
-tile-requires c κs = simp (length-take, length-drop) (omega arith)
+fill-tile-requires : tie.Need-fill-tile-requires Inv-loop μ-loop Inv-loop2 μ-loop2
+fill-tile-requires c κs = simp (length-take, length-drop) (omega arith)
 
 loop-again : tie.Need-loop-again Inv-loop μ-loop Inv-loop2 μ-loop2
 loop-again c =
     let at = c .before .before .before .before .before .before in
     let a = at .before .before .before .before .args in
     let k = at .loop .at in
-    filling-part _ _ k (k + 24) (at .loop .inv) (tile-places (a .row .now) (a .query .now) k (k + 24) (c .before .before .tile .ensures) (omega arith)) (omega arith) (omega arith)
+    filling-part _ _ k (k + tile) (at .loop .inv) (tile-places (a .row .now) (a .query .now) k (k + tile) (c .before .before .fill-tile .ensures) (omega arith)) (omega arith) (omega arith)
 
 dot-product-requires : tie.Need-dot-product-requires Inv-loop μ-loop Inv-loop2 μ-loop2
 dot-product-requires c κs = simp (length-take, length-drop) (omega arith)
@@ -64,7 +65,7 @@ dots-spec =
     (λ c. omega arith)
     (λ c. omega arith)
     (λ c. omega arith)
-    tile-requires
+    fill-tile-requires
     (λ c. omega arith)
     loop-again
     (λ c. filling-anew _ _ _ (c .before .loop .inv))
