@@ -111,9 +111,10 @@ terms-are z = refl
 abbrev part : ℕ → Float
 part i = one ⊘ ofInt binary64 (pos (2 * i + 1))
 
-pub four-are : (i : ℕ) (z q : Float) {a b c d : Float} → a ≡ part (i + 3) → b ≡ part (i + 2) → c ≡ part (i + 1) → d ≡ part i → (((q ⊗ z ⊕ a) ⊗ z ⊕ b) ⊗ z ⊕ c) ⊗ z ⊕ d ≡ terms 4 i z q
+pub four-are : (i : ℕ) (z q : Float) {a b c d r : Float} → a ≡ part (i + 3) → b ≡ part (i + 2) → c ≡ part (i + 1) → d ≡ part i → r ≡ (((q ⊗ z ⊕ a) ⊗ z ⊕ b) ⊗ z ⊕ c) ⊗ z ⊕ d
+    → r ≡ terms 4 i z q
 unfolding terms
-four-are i z q a b c d = rw (add-zero i) (λ j. (((q ⊗ z ⊕ a j) ⊗ z ⊕ b j) ⊗ z ⊕ c j) ⊗ z ⊕ d j)
+four-are i z q a b c d r = r ∙ rw (add-zero i) (λ j. (((q ⊗ z ⊕ a j) ⊗ z ⊕ b j) ⊗ z ⊕ c j) ⊗ z ⊕ d j)
 
 -- ---- what the passes give of one w
 abbrev pub ratioOf : Float → Float
