@@ -16,7 +16,8 @@ use Rattle.numbers_spec.proofs.Order.{between-at-most}
 use Rattle.numbers_spec.specs.Rows.{allTo, Every, F32, every}
 use Rattle.matcher_spec.specs.Timeline.{validValues}
 use Rattle.matcher_spec.specs.SoundSearch.{GoodWindow}
-use Rattle.matcher_spec.proofs.Bounds.{widened-to, at-most-within}
+use Rattle.numbers_spec.proofs.Within.{at-most-within}
+use Rattle.matcher_spec.proofs.Bounds.{widened-to}
 use Rattle.matcher_spec.specs.Limits.{farthestMs, windowMost, bandsMost, farthest}
 use Rattle.engine_spec.specs.Windows.{query, endpointOf}
 use Rattle.engine_spec.specs.Refusals.{numberOf, refuses, unless, near, indexFits, validWindow, validEnergy, Submission, handedRefusal}

@@ -24,10 +24,11 @@ use Rattle.numbers_spec.specs.Values.{AtMost}
 use Rattle.numbers_spec.proofs.Order.{between-at-most, le-self, le-transitive}
 use Rattle.numbers_spec.proofs.Narrowing.{narrow-mono}
 use Rattle.numbers_spec.proofs.Log1p.{log1p-finite}
-use Rattle.numbers_spec.proofs.Sums.{add-at-most, sub-mono, sub-anti}
+use Rattle.numbers_spec.proofs.Sums.{add-grows, add-at-most, sub-mono, sub-anti}
 use Rattle.numbers_spec.proofs.Products.{div-at-most}
-use Rattle.matcher_spec.proofs.Bounds.{widened-to, at-most-within}
-use Rattle.matcher_spec.proofs.WholeBounds.{Upto, beside, real-finite, upto-finite, upto-more, upto-add, upto-mul, upto-real, upto-sub, upto-div, add-grows}
+use Rattle.numbers_spec.proofs.Within.{at-most-within}
+use Rattle.matcher_spec.proofs.Bounds.{widened-to}
+use Rattle.matcher_spec.proofs.WholeBounds.{Upto, beside, real-finite, upto-finite, upto-more, upto-add, upto-mul, upto-real, upto-sub, upto-div}
 use Rattle.matcher_spec.proofs.RowAccess.{every-part, every-tabulate, every-rows}
 use Rattle.matcher_spec.specs.CentringBounds.{Small, CentredWithin, KeptWithin, AveragesWithin, FineWithin, QueryWithin, AllAveragesWithin}
 
