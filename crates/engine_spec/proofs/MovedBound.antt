@@ -1,4 +1,4 @@
--- A track that is supported stays within 2^42, wherever it was: what was found lies within 2^41, the track at most 80 from it, and the track moves by at most three times that. Assumes nothing.
+-- A track that is supported stays within 2^42, wherever it was: what was found lies within 2^41, the track at most 80 from it, and the track moves by at most twice that. Assumes nothing.
 use mathlib.Core.Path.{refl, sym}
 use mathlib.Core.Logic.{inl, inr}
 use mathlib.Core.Bool.{Bool, true, false}
@@ -10,15 +10,15 @@ use lib.IntN.{ℤ, pos}
 use lib.Count.{trailingZeros}
 use lib.Ieee.{Float, nan, inf, fin, binary64, up, down, unlike, le, lt, eq, neg, add, sub, mul, div, sum, ofBits, ofFields, odd, round, units, size, span, climb, isNan}
 use lib.Ieee.Fits.{down-pos}
+use lib.Ieee.Positive.{positive}
 use lib.Ieee.Scale.{finite}
 use Rattle.numbers_spec.specs.Arithmetic.{_⊕_, _⊖_, _⊗_, _⊘_, zero⁺, one, two, absolute, atLeast, magnitude}
 use Rattle.numbers_spec.specs.Exponential.{expOf}
 use Rattle.numbers_spec.proofs.Value.{finite-no-nan}
 use Rattle.numbers_spec.specs.Values.{Number, AtMost, NotNegative, Between}
-use Rattle.numbers_spec.proofs.Order.{P, N, le→below, le-transitive, le-self, le-total, lt→le, not-lt→le, neg-le, neg-finite, magnitude-neg, at-most-between, between-at-most, at-most-finite}
-use Rattle.numbers_spec.proofs.Rounding.{Is, Rounded, rounded-mono, zeros}
+use Rattle.numbers_spec.proofs.Order.{le-transitive, le-self, le-total, lt→le, not-lt→le, neg-le, neg-finite, magnitude-neg, at-most-between, between-at-most, at-most-finite}
 use Rattle.numbers_spec.proofs.Sums.{sub-mono, sub-anti, add-at-most, sub-at-most}
-use Rattle.numbers_spec.proofs.Products.{mul-at-most}
+use Rattle.numbers_spec.proofs.Products.{mul-at-most, div-not-positive}
 use Rattle.numbers_spec.proofs.ExpLaws.{exp-laws}
 use Rattle.matcher_spec.specs.declared.types.Candidate.{Candidate}
 use Rattle.engine_spec.specs.Thresholds.{samePlaceMs, gainMs}
@@ -101,38 +101,22 @@ module _ (best offset : Float) (B : AtMost foundMost best) (O : T (finite offset
   })
 
 -- ---- the gain
--- x / 300 is (P - N) / (300 * down e), rounded,
-quotient-rounded : (s : Bool) (m : ℕ) (e : ℤ) → Rounded binary64 (P s (m * up e)) (N s (m * up e)) (300 * down e) (fin s m e ⊘ gainMs)
-unfolding div ofBits ofFields odd trailingZeros
-quotient-rounded s m e = record { sign = unlike s false; size = m * up e * 1; is = signs s (m * up e); rounded = refl }
-  where
-    signs : (s : Bool) (a : ℕ) → Is (unlike s false) (a * 1) (P s a) (N s a)
-    signs true a = omega arith
-    signs false a = omega arith
+gain-positive : T (positive gainMs)
+unfolding ofBits ofFields odd trailingZeros
+gain-positive = tt
 
-zero-rounded : Rounded binary64 0 0 1 zero⁺
-zero-rounded = record { sign = false; size = 0; is = refl; rounded = sym (zeros binary64 false 1 (lit< tt)) }
-
--- so of an x that is not above zero it is not,
-quotient-falls : (x : Float) → T (finite x) → T (le x zero⁺) → T (le (x ⊘ gainMs) zero⁺)
-quotient-falls nan X h = absurd X
-quotient-falls (inf s) X h = absurd X
-quotient-falls (fin s m e) X h =
-    let below = le→below (fin s m e) zero⁺ tt tt h in
-    rounded-mono binary64 (P s (m * up e)) (N s (m * up e)) (300 * down e) 0 0 1 (fin s m e ⊘ gainMs) zero⁺ (mul-pos (lit< tt) (down-pos e)) (lit< tt) (quotient-rounded s m e) zero-rounded (omega arith)
-
--- and E of it is from 0 to 2: the gain is within ±3.
+-- E of a quotient that is not above zero is from 0 to 1: the gain is within ±2.
 abbrev gainMost : Float
-gainMost = one ⊕ two
+gainMost = one ⊕ one
 
 gain-at-most : (dt : Float) → T (finite dt) → NotNegative dt → AtMost gainMost (gain dt)
 unfolding gain
 gain-at-most dt F h =
     let q = neg dt ⊘ gainMs in
-    let low : T (le q zero⁺) = quotient-falls (neg dt) (neg-finite dt F) (le-transitive (neg dt) (neg zero⁺) zero⁺ (neg-le zero⁺ dt h) (unfold neg le lt eq in tt)) in
+    let low : T (le q zero⁺) = div-not-positive binary64 (neg dt) gainMs (neg-finite dt F) gain-positive (le-transitive (neg dt) (neg zero⁺) zero⁺ (neg-le zero⁺ dt h) (unfold neg le lt eq in tt)) in
     let laws = exp-laws q (at-most-number q zero⁺ low) in
-    sub-at-most binary64 one (expOf q) one two tt tt (unfold magnitude le lt eq in tt)
-    (between-at-most two (expOf q) (record { from = le-transitive (neg two) zero⁺ (expOf q) (unfold neg le lt eq in tt) (laws .not-negative); to = laws .at-most-two low }))
+    sub-at-most binary64 one (expOf q) one one tt tt (unfold magnitude le lt eq in tt)
+    (between-at-most one (expOf q) (record { from = le-transitive (neg one) zero⁺ (expOf q) (unfold neg le lt eq in tt) (laws .not-negative); to = laws .at-most-one low }))
 
 -- ---- the track after it
 -- 2^42

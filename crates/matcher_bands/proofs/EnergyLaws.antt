@@ -10,7 +10,7 @@ use lib.Ieee.{Float, nan}
 use borrow.Rule.Slice.PartMut.{putMid}
 use Rattle.numbers_spec.specs.Rows.{rows, row}
 use Rattle.matcher_spec.specs.Energy.{energies, average, averages}
-use Rattle.numbers_spec.proofs.RowLaws.{length-tabulate, next-row, Rowed, rowed-none, rowed-more, rowed-length}
+use Rattle.numbers_spec.proofs.RowLaws.{length-tabulate, row-within, next-row, Rowed, rowed-none, rowed-more, rowed-length}
 
 -- a part within the list has its length
 pub length-part : (from n : ℕ) (v : List Float) → from + n ≤ length v → length (take n (drop from v)) ≡ n
@@ -23,22 +23,40 @@ length-energies from n v h = length-tabulate _ _ ∙ ap (λ (k : ℕ). k + 1) (l
 pub length-averages : (from n : ℕ) (v : List Float) → from + n ≤ length v → length (averages (take n (drop from v))) ≡ n / 4
 length-averages from n v h = length-tabulate _ _ ∙ ap (λ (k : ℕ). k / 4) (length-part from n v h)
 
-module _ (f : List Float → List Float) (n size : ℕ) (v d : List Float) where
-  -- the list d with what f makes of the first b rows of v at its front, `size` elements each
-  abbrev pub Banded : ℕ → List Float → Type 0
-  Banded b whole = (length whole ≡ length d) × Rowed (λ (k : ℕ). f (row n v k)) d b (b * size) whole
+-- Bands of n values each in v, of which f makes `size` elements each, one after the other in d.
+module _ (f : List Float → List Float) (n size bands : ℕ) (v d : List Float) where
+  -- after b of the bands: what f makes of them stands at the front, and the rest is as it was
+  pub record Banded (b : ℕ) (whole : List Float) : Type 0 where
+    pub passed : b ≤ bands
+    pub long : length whole ≡ length d
+    pub front : Rowed (λ (k : ℕ). f (row n v k)) d b (b * size) whole
 
   pub banded-none : Banded 0 d
-  banded-none = (refl, rw zero-mul (rowed-none _ _))
+  banded-none = record { passed = omega arith; long = refl; front = rw zero-mul (rowed-none _ _) }
 
-  -- the next stretch was lent with the next row, and came back as f makes it
-  pub banded-more : (b : ℕ) {whole part : List Float} → length (f (row n v b)) ≡ size → b * size + size ≤ length d → Banded b whole
-      → part ≡ f (take (b * n + n - b * n) (drop (b * n) v)) → Banded (b + 1) (putMid (b * size) (b * size + size - b * size) whole part)
-  banded-more b s h p q =
-      let same : b * n + n - b * n ≡ n = omega arith in
-      let g : ℕ → List Float = λ k. f (row n v k) in
-      let more = rowed-more g d b (b * size) (b * size + size) (p .1) (q ∙ ap (λ (k : ℕ). f (take k (drop (b * n) v))) same) (s ∙ omega arith) (omega arith) h in
-      (rowed-length g d (b + 1) (b * size + size) more h, (more .0 ∙ next-row b size, more .1 ∙ ap (λ (e : ℕ). rows g (b + 1) ++ drop e d) (next-row b size)))
+  module _ (values : bands * n ≤ length v) (room : bands * size ≤ length d) where
+    -- the next band ends within v, and what f makes of it within d
+    pub band-within : (b : ℕ) → b < bands → (b * n + n ≤ length v) × (b * size + size ≤ length d)
+    band-within b h = omega (arith, row-within b bands n h, row-within b bands size h)
+
+    -- its stretch was lent with the band, and came back as f makes it
+    pub banded-more : (b : ℕ) {whole part : List Float} → b < bands → length (f (row n v b)) ≡ size → Banded b whole
+        → part ≡ f (take (b * n + n - b * n) (drop (b * n) v)) → Banded (b + 1) (putMid (b * size) (b * size + size - b * size) whole part)
+    banded-more b h s p q =
+        let w = band-within b h in
+        let same : b * n + n - b * n ≡ n = omega arith in
+        let g : ℕ → List Float = λ k. f (row n v k) in
+        let more = rowed-more g d b (b * size) (b * size + size) (p .front) (q ∙ ap (λ (k : ℕ). f (take k (drop (b * n) v))) same) (s ∙ omega arith) (omega arith) (w .1) in
+        record {
+          passed = omega arith;
+          long = rowed-length g d (b + 1) (b * size + size) more (w .1);
+          front = (more .0 ∙ next-row b size, more .1 ∙ ap (λ (e : ℕ). rows g (b + 1) ++ drop e d) (next-row b size));
+        }
+
+  pub banded-all : (b : ℕ) {whole : List Float} → bands ≤ b → Banded b whole → whole ≡ rows (λ (k : ℕ). f (row n v k)) bands ++ drop (bands * size) d
+  banded-all b h p =
+      let e : b ≡ bands = let k = p .passed in omega arith in
+      rw e at (p .front .1)
 
 -- ---- rows written from a place on, in the list that they are made of
 -- what stands before the place is as it was

@@ -5,8 +5,9 @@ ghost use lib.Ieee.{nan};
 ghost use lib.ListN.{drop, getD, length, take};
 ghost use mathlib.Core.List.{_++_};
 ghost use mathlib.Core.Path.{_≡_};
-ghost use Rattle.matcher_spec.specs.Centring.{centred, centredAt, contextFrames, meanAround, radius, sumOf};
-ghost use Rattle.numbers_spec.specs.Rows.{row, rows, tabulate};
+ghost use Rattle.matcher_bands.specs.Centring.{lastOr, prefixSums};
+ghost use Rattle.matcher_spec.specs.Centring.{centred, centredAt, contextFrames, meanAround, radius};
+ghost use Rattle.numbers_spec.specs.Rows.{logsOf, row, rows, tabulate};
 use numbers::counts::min;
 use numbers::counts::saturating_sub;
 use numbers::float::at_least;
@@ -34,7 +35,7 @@ pub fn radius(hop: f64) -> usize
 // Fills the row with the prefix sums: one more than there are values.
 fn fill_sums(sums: &mut [f64], values: &[f32])
     requires { ⌜ length (now sums) ≡ length (now values) + 1 ⌝ }
-    ensures { λ _. ⌜ now (sums .exit) ≡ tabulate (sumOf (now (values .entry))) (length (now (values .entry)) + 1) ⌝ }
+    ensures { λ _. ⌜ now (sums .exit) ≡ prefixSums (now (values .entry)) ⌝ }
 {
     let n = values.len();
     let mut sum = 0.0f64;
@@ -62,8 +63,8 @@ fn mean_around(sums: &[f64], first: f32, last: f32, radius: usize, i: usize) -> 
     mean_at_end(sums, first, last, radius, i)
 }
 
-// The same where the frames lie within the row, as nearly all do. No value is repeated then, and
-// what that adds is the same for each i.
+// The mean over the frames around i where they lie within the row, as nearly all do. No value is
+// repeated then, and what that adds is the same for each i.
 fn mean_inside(sums: &[f64], first: f32, last: f32, radius: usize, i: usize) -> f32
     requires { ⌜ radius ≤ i ⌝ ∗ ⌜ i + radius + 1 < length (now sums) ⌝ ∗ ⌜ radius ≤ 250 ⌝ }
     ensures { λ r. ⌜ r ≡ meanAround (λ (k : ℕ). getD (now (sums .entry)) k nan) (length (now (sums .entry)) - 1) first last radius i ⌝ }
@@ -74,7 +75,7 @@ fn mean_inside(sums: &[f64], first: f32, last: f32, radius: usize, i: usize) -> 
     narrow((sum + before + after) / real(2 * radius + 1))
 }
 
-// The same where they may reach past an end.
+// The mean over the frames around i where they may reach past an end.
 fn mean_at_end(sums: &[f64], first: f32, last: f32, radius: usize, i: usize) -> f32
     requires { ⌜ i + 1 < length (now sums) ⌝ ∗ ⌜ radius ≤ 250 ⌝ }
     ensures { λ r. ⌜ r ≡ meanAround (λ (k : ℕ). getD (now (sums .entry)) k nan) (length (now (sums .entry)) - 1) first last radius i ⌝ }
@@ -92,7 +93,7 @@ fn mean_at_end(sums: &[f64], first: f32, last: f32, radius: usize, i: usize) -> 
 // The row holds logs, and `sums` their prefix sums.
 fn centre(row: &mut [f32], sums: &[f64], radius: usize, from: usize, count: usize)
     requires { ⌜ length (now sums) ≡ length (now row) + 1 ⌝ ∗ ⌜ radius ≤ 250 ⌝ ∗ ⌜ from + count ≤ length (now row) ⌝ ∗ ⌜ 0 < length (now row) ⌝ }
-    requires { ⌜ now sums ≡ tabulate (sumOf (now row)) (length (now row) + 1) ⌝ }
+    requires { ⌜ now sums ≡ prefixSums (now row) ⌝ }
     ensures { λ _. ⌜ now (row .exit) ≡ tabulate (λ (i : ℕ). centredAt radius (now (row .entry)) (from + i)) count ++ drop count (now (row .entry)) ⌝ }
 {
     let first = row[0];
@@ -105,28 +106,20 @@ fn centre(row: &mut [f32], sums: &[f64], radius: usize, from: usize, count: usiz
     }
 }
 
-// Centres one band: `count` of its frames from `from` on, at the row's front. The rest of the row,
-// and `sums`, are left with what they were used for.
-fn centre_band(
-    row: &mut [f32],
-    sums: &mut [f64],
-    values: &[f32],
-    radius: usize,
-    from: usize,
-    count: usize,
-)
-    requires { ⌜ length (now row) ≡ length (now values) ⌝ ∗ ⌜ length (now sums) ≡ length (now values) + 1 ⌝ ∗ ⌜ 0 < length (now values) ⌝ }
-    requires { ⌜ radius ≤ 250 ⌝ ∗ ⌜ from + count ≤ length (now values) ⌝ }
-    ensures { λ _. ⌜ take count (now (row .exit)) ≡ take count (drop from (centred radius (now (values .entry)))) ⌝ }
+// Centres a row of logs: `count` of its frames from `from` on, at the row's front. The other logs
+// stay, and `sums` holds the prefix sums of all.
+fn centre_band(row: &mut [f32], sums: &mut [f64], radius: usize, from: usize, count: usize)
+    requires { ⌜ length (now sums) ≡ length (now row) + 1 ⌝ ∗ ⌜ radius ≤ 250 ⌝ ∗ ⌜ from + count ≤ length (now row) ⌝ ∗ ⌜ 0 < length (now row) ⌝ }
+    ensures { λ _. ⌜ now (row .exit) ≡ tabulate (λ (i : ℕ). centredAt radius (now (row .entry)) (from + i)) count ++ drop count (now (row .entry)) ⌝ }
+    ensures { λ _. ⌜ now (sums .exit) ≡ prefixSums (now (row .entry)) ⌝ }
 {
-    ln_1p_row(row, values);
     fill_sums(sums, row);
     centre(row, sums, radius, from, count);
 }
 
-// Centres the bands one after the other: `count` frames of each, from `from` on. A band's row is
-// worked out in the `frames` places from its own start on, so it is followed by the next one's, and
-// the last by what it was worked out from.
+// Takes the logs of each band and centres them, band after band: `count` frames of each, from
+// `from` on. A band is worked out in the `frames` places from its own start on, so the next one's
+// follows at once, and the last is followed by those of its logs that no frame replaced.
 pub fn centre_bands(
     out: &mut [f32],
     sums: &mut [f64],
@@ -140,7 +133,9 @@ pub fn centre_bands(
     requires { ⌜ bands * frames ≤ length (now values) ⌝ ∗ ⌜ bands * count + (frames - count) ≤ length (now out) ⌝ ∗ ⌜ length (now sums) ≡ frames + 1 ⌝ }
     requires { ⌜ 0 < frames ⌝ ∗ ⌜ radius ≤ 250 ⌝ ∗ ⌜ from + count ≤ frames ⌝ }
     ensures { λ _. ⌜ take (bands * count) (now (out .exit)) ≡ rows (λ (b : ℕ). take count (drop from (centred radius (row frames (now (values .entry)) b)))) bands ⌝ }
+    ensures { λ _. ⌜ take (frames - count) (drop (bands * count) (now (out .exit))) ≡ lastOr (take (frames - count) (now (out .entry))) (λ (b : ℕ). drop count (logsOf (row frames (now (values .entry)) b))) bands ⌝ }
     ensures { λ _. ⌜ drop (bands * count + (frames - count)) (now (out .exit)) ≡ drop (bands * count + (frames - count)) (now (out .entry)) ⌝ }
+    ensures { λ _. ⌜ now (sums .exit) ≡ lastOr (now (sums .entry)) (λ (b : ℕ). prefixSums (logsOf (row frames (now (values .entry)) b))) bands ⌝ }
 {
     let mut b = 0usize;
     while b < bands {
@@ -148,14 +143,8 @@ pub fn centre_bands(
         let end = at + frames;
         let start = b * frames;
         let stop = start + frames;
-        centre_band(
-            &mut out[at..end],
-            sums,
-            &values[start..stop],
-            radius,
-            from,
-            count,
-        );
+        ln_1p_row(&mut out[at..end], &values[start..stop]);
+        centre_band(&mut out[at..end], sums, radius, from, count);
         b += 1;
     }
 }

@@ -1,15 +1,12 @@
--- Bounds n * 2 ^ p, in the forms that scores need: wider ones, sums, and a sum that is no less than its first part. Assumes nothing.
+-- Bounds n * 2 ^ p, in the forms that scores need: wider ones, and sums. Assumes nothing.
 use mathlib.Core.Path.{_≡_}
 use Prim.Native.Nat.{ℕ, zero, suc, _+_, _*_, _^_, _≤_, _<_}
 use native.Mathlib.Nat.{le-trans, mul-le-mul-right, lt-of-le-of-lt}
 use native.Mathlib.Omega.{arith}
 use lib.Dec.{T, ltb, leb, ltb→lt, leb→le}
-use mathlib.Core.Bool.{false}
-use lib.IntN.{pos}
-use lib.Ieee.{Float, nan, inf, fin, Format, binary64, prec, emax, le}
-use Rattle.numbers_spec.proofs.Order.{cross, below→le}
-use Rattle.numbers_spec.specs.Arithmetic.{zero⁺, magnitude}
-use Rattle.numbers_spec.specs.Values.{AtMost, Den, Within, Holds}
+use lib.Ieee.{Float, Format, binary64, prec, emax}
+use Rattle.numbers_spec.specs.Arithmetic.{zero⁺}
+use Rattle.numbers_spec.specs.Values.{Den, Within, Holds}
 use Rattle.numbers_spec.proofs.Within.{add-within}
 use Rattle.numbers_spec.specs.Rows.{sumTo}
 
@@ -25,7 +22,7 @@ holds f n most p h few room = record {
 pub widened : (n p n' p' : ℕ) (x : Float) → n * 2 ^ p ≤ n' * 2 ^ p' → Within n p x → Within n' p' x
 widened n p n' p' x h X = record { finite-is = X .finite-is; small = le-trans (X .small) (mul-le-mul-right (Den x) h) }
 
--- The same, from n ≤ most and a bound of literals.
+-- A wider bound, from n ≤ most and a bound of literals.
 pub widened-to : (n most p n' p' : ℕ) (x : Float) → n ≤ most → T (leb (most * 2 ^ p) (n' * 2 ^ p')) → Within n p x → Within n' p' x
 widened-to n most p n' p' x h k X = widened n p n' p' x (le-trans (mul-le-mul-right (2 ^ p) h) (leb→le (most * 2 ^ p) (n' * 2 ^ p') k)) X
 
@@ -45,15 +42,3 @@ sum-to-within t (suc n) p H h =
 
     less : Holds binary64 n p
     less = record { few = lt-of-le-of-lt (omega arith) (H .few); room = lt-of-le-of-lt (mul-le-mul-right (2 ^ p) (omega arith)) (H .room) }
-
--- ---- |x| ≤ n * 2 ^ p, and the same of floats
-pub within-at-most : (n p : ℕ) (x : Float) → Within n p x → AtMost (fin false n (pos p)) x
-within-at-most n p nan X = absurd (X .finite-is)
-within-at-most n p (inf s) X = absurd (X .finite-is)
-within-at-most n p (fin s m e) X = unfold magnitude in below→le (fin false m e) (fin false n (pos p)) tt tt (let k = X .small in omega arith)
-
-pub at-most-within : (n p : ℕ) (x : Float) → AtMost (fin false n (pos p)) x → Within n p x
-unfolding magnitude
-at-most-within n p nan h = absurd (unfold le in h)
-at-most-within n p (inf s) h = absurd (unfold le in h)
-at-most-within n p (fin s m e) h = record { finite-is = tt; small = let k = cross m e n (pos p) h in omega arith }

@@ -19,7 +19,7 @@ use Rattle.numbers_spec.proofs.Value.{finite-no-nan}
 use Rattle.numbers_spec.specs.Values.{AtMost, size as sizeOf, Den, Within}
 use Rattle.numbers_spec.proofs.Order.{le-self, lt→le, not-lt→le, le-transitive, neg-le, neg-finite, between-at-most, positive-above, positive-not-negative}
 use Rattle.numbers_spec.proofs.Products.{div-mono}
-use Rattle.numbers_spec.proofs.Within.{add-within, sub-within, mul-within, div-within, le→size}
+use Rattle.numbers_spec.proofs.Within.{add-within, sub-within, mul-within, div-within, le→size, within-at-most, at-most-within}
 use Rattle.numbers_spec.proofs.CountLaws.{count-monotone}
 use Rattle.numbers_spec.specs.Rows.{tabulate}
 use Rattle.matcher_spec.specs.Energy.{withEnergies, wholeEnergies}
@@ -30,7 +30,7 @@ use Rattle.matcher_spec.specs.declared.types.Reference.{Reference}
 use Rattle.numbers_spec.proofs.RowLaws.{length-tabulate}
 use Rattle.matcher_spec.specs.CandidateBounds.{WithinModest, SoundModest, VertexAtMost, FractionAtMost, Timed, CandidateOfSound, CandidateInSound}
 use Rattle.matcher_spec.proofs.Cases.{cond-elim, is-T, is-not-T, and-true-r}
-use Rattle.matcher_spec.proofs.Bounds.{holds, widened, widened-to, within-at-most, at-most-within}
+use Rattle.matcher_spec.proofs.Bounds.{holds, widened, widened-to}
 use Rattle.matcher_spec.proofs.PeakLaws.{first-maximum}
 use Rattle.matcher_spec.proofs.RowAccess.{every-tabulate}
 use Rattle.matcher_spec.proofs.ScoreBounds.{real-within, correlation-within, score-part-within}

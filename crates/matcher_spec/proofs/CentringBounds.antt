@@ -18,16 +18,17 @@ use Rattle.matcher_spec.specs.Centring.{sumOf, meanAround, centredAt, lo
 use Rattle.matcher_spec.specs.Timeline.{validValue, validValues}
 use Rattle.numbers_spec.specs.Rows.{row, sumTo, Every, F32}
 use Rattle.matcher_spec.specs.Energy.{zeroF32, four, _+₃₂_, average, averages}
-use Rattle.numbers_spec.proofs.RowLaws.{length-tabulate, all-fails}
+use Rattle.numbers_spec.proofs.RowLaws.{length-logs, log-at, all-fails}
 use Rattle.numbers_spec.specs.LogLaws.{logMost₃₂}
 use Rattle.numbers_spec.specs.Values.{AtMost}
 use Rattle.numbers_spec.proofs.Order.{between-at-most, le-self, le-transitive}
 use Rattle.numbers_spec.proofs.Narrowing.{narrow-mono}
 use Rattle.numbers_spec.proofs.Log1p.{log1p-finite}
-use Rattle.numbers_spec.proofs.Sums.{add-at-most, sub-mono, sub-anti}
+use Rattle.numbers_spec.proofs.Sums.{add-grows, add-at-most, sub-mono, sub-anti}
 use Rattle.numbers_spec.proofs.Products.{div-at-most}
-use Rattle.matcher_spec.proofs.Bounds.{widened-to, at-most-within}
-use Rattle.matcher_spec.proofs.WholeBounds.{Upto, beside, real-finite, upto-finite, upto-more, upto-add, upto-mul, upto-real, upto-sub, upto-div, add-grows}
+use Rattle.numbers_spec.proofs.Within.{at-most-within}
+use Rattle.matcher_spec.proofs.Bounds.{widened-to}
+use Rattle.matcher_spec.proofs.WholeBounds.{Upto, beside, real-finite, upto-finite, upto-more, upto-add, upto-mul, upto-real, upto-sub, upto-div}
 use Rattle.matcher_spec.proofs.RowAccess.{every-part, every-tabulate, every-rows}
 use Rattle.matcher_spec.specs.CentringBounds.{Small, CentredWithin, KeptWithin, AveragesWithin, FineWithin, QueryWithin, AllAveragesWithin}
 
@@ -129,11 +130,11 @@ log-upto w F W =
     record { from = b .not-negative; to = le-transitive (log1pOf w) logMost₃₂ (real 91) (b .most) (unfold ofInt round le in tt) }
 
 centred-each : (r : ℕ) (values : List Float) → r ≤ 2 ^ 40 → length values ≤ 2 ^ 40 → Every F32 values → Every (λ x. T (validValue x)) values → Every Small (centred r values)
-unfolding centred centredAt logs
+unfolding centred centredAt
 centred-each r values R L F W =
     let l = logs values in
-    let size : length l ≡ length values = length-tabulate _ _ in
-    let each : Every (Upto 91) l = every-tabulate (Upto 91) _ _ (λ i h. log-upto (getD values i nan) (F i h) (W i h)) in
+    let size : length l ≡ length values = length-logs values in
+    let each : Every (Upto 91) l = λ i h. rw (log-at values i) (log-upto (getD values i nan) (F i (omega arith)) (W i (omega arith))) in
     every-tabulate Small (centredAt r l) (length values) (λ i h. difference (getD l i nan) _ (each i (omega arith)) (mean-upto l (omega arith) each r i R (omega arith)))
 
 pub centred-within : CentredWithin

@@ -17,17 +17,17 @@ use Rattle.numbers_spec.specs.Arithmetic.{_⊖_, _⊗_, _⊘_, one, real, atLea
 use Rattle.numbers_spec.specs.Logarithm.{smallestNormal}
 use Rattle.numbers_spec.specs.Root.{rootFrom, nearRoot, rootUnits, rootOf}
 use Rattle.numbers_spec.specs.Values.{NotNegative, size as sizeOf, Den, Within, Holds}
-use Rattle.numbers_spec.proofs.Order.{le→below, le-self, lt→le, le-transitive, positive-not-negative}
-use Rattle.numbers_spec.proofs.Sums.{sub-not-negative}
+use Rattle.numbers_spec.proofs.Order.{le-self, lt→le, le-transitive, positive-not-negative}
+use Rattle.numbers_spec.proofs.Sums.{sub-not-negative, add-grows}
 use Rattle.numbers_spec.proofs.Products.{square-not-negative, mul-mono, mul-mono-by}
 use Rattle.numbers_spec.proofs.RootLaws.{root-monotone, root-normal}
-use Rattle.numbers_spec.proofs.Within.{round-within, add-within, sub-within, mul-within, div-within, le→size}
+use Rattle.numbers_spec.proofs.Within.{round-within, add-within, sub-within, mul-within, div-within, le→size, one→size}
 use Rattle.numbers_spec.specs.Rows.{row, sumTo}
 use Rattle.matcher_spec.specs.Energy.{energyTo, withEnergies, wholeEnergies, zeroF32, _+₃₂_}
 use Rattle.matcher_spec.specs.Scores.{product, lane, lanes, onward, dot, thousandth, varianceFloor, bandTerm, termAt, correlationAt, partTerm, partAt, scorePart}
 use Rattle.matcher_spec.specs.ScoreBounds.{Bounded, EnergyWithin, EnergyNotNegative, EnergyGrows, EnergyOfPart, DotWithin, leastWeight, Weight, WeightOfEnergy, ProductNormal, RootOfWeights, BoundedBands, Comparable, weightOf, Radicands, RadicandsNormal, TermWithin, PartWithin, CorrelationWithin, ScorePartWithin}
 use Rattle.matcher_spec.proofs.Bounds.{holds, widened-to, zero-within, sum-to-within}
-use Rattle.matcher_spec.proofs.WholeBounds.{real-mono, add-grows}
+use Rattle.matcher_spec.proofs.WholeBounds.{real-mono}
 use Rattle.matcher_spec.proofs.Cases.{cond-elim, is-T}
 use Rattle.matcher_spec.proofs.RowAccess.{length-part, length-row, energy-at, energies-row, whole-energy-at, every-part}
 use Rattle.matcher_spec.specs.Limits.{framesMost, windowMost, bandsMost}
@@ -280,12 +280,6 @@ part-within bands n count values query C start low high b u k h w =
 
 -- ---- scores
 -- |y| ≥ 1 of a y that is not below 1
-one→size : (y : Float) → T (finite y) → T (le one y) → Den y ≤ sizeOf y * 2 ^ 0
-one→size nan Y h = absurd Y
-one→size (inf s) Y h = absurd Y
-one→size (fin true m e) Y h = let z = le→below one (fin true m e) tt tt h in let d = down-pos e in omega arith
-one→size (fin false m e) Y h = let z = le→below one (fin false m e) tt tt h in omega arith
-
 one-within : Within 1 0 one
 one-within = record { finite-is = tt; small = lit≤ tt }
 

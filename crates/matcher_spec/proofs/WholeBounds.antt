@@ -18,10 +18,8 @@ use lib.Ieee.Scale.{finite, round-same}
 use Rattle.numbers_spec.specs.Arithmetic.{_⊕_, _⊖_, _⊗_, _⊘_, zero⁺, real}
 use Rattle.numbers_spec.proofs.Value.{finite-no-nan}
 use Rattle.numbers_spec.specs.Values.{Den, NotNegative, Between}
-use Rattle.numbers_spec.proofs.Order.{Pos, Neg, den-pos, no-negative-part, le-self, le-total, le-transitive, between-finite}
-use Rattle.numbers_spec.proofs.Rounding.{Rounded, rounded-mono, is-own}
-use Rattle.numbers_spec.proofs.Placed.{round-own}
-use Rattle.numbers_spec.proofs.Sums.{add-rounded, add-mono, add-not-negative, sub-mono, sub-anti, sub-not-negative}
+use Rattle.numbers_spec.proofs.Order.{le-self, le-total, le-transitive, between-finite}
+use Rattle.numbers_spec.proofs.Sums.{add-mono, add-not-negative, sub-mono, sub-anti, sub-not-negative}
 use Rattle.numbers_spec.proofs.Products.{mul-mono, mul-not-negative, div-mono, div-not-negative}
 
 -- ---- whole numbers are added, subtracted, multiplied and divided exactly
@@ -146,20 +144,6 @@ upto-div n k x C K N h =
       from = div-not-negative binary64 x (real k) X D (h .from);
       to = rw (real-div (n * k) k N K n refl C) at (div-mono binary64 x (real (n * k)) (real k) (real k) X (real-finite (n * k) N) D D (h .from) (h .to) (le-self (real k) (real-finite k K)));
     }
-
--- ---- a value is its own rounded value, so adding what is not negative does not lower it
-own-rounded : (f : Format) (x : Float) → T (fits f x) → T (finite x) → Rounded f (Pos x) (Neg x) (Den x) x
-own-rounded f nan F X = absurd X
-own-rounded f (inf s) F X = absurd X
-own-rounded f (fin s m e) F X = record { sign = s; size = m * up e; is = is-own s (m * up e); rounded = sym (round-own f s m e F) }
-
-pub add-grows : (f : Format) (x y : Float) → T (fits f x) → T (finite x) → T (finite y) → NotNegative y → T (le x (add f x y))
-add-grows f x y F X Y p =
-    rounded-mono f _ _ _ _ _ _ x (add f x y) (den-pos x) (mul-pos (den-pos x) (den-pos y)) (own-rounded f x F X) (add-rounded f x y X Y)
-    (rw (no-negative-part y Y p) (lin (Pos x) (Neg x) (Den x) (Pos y) (Den y)))
-  where
-    lin : (a n c b d : ℕ) → a * (c * d) + (n * d + 0 * c) * c ≤ (a * d + b * c) * c + n * (c * d)
-    lin a n c b d = omega arith
 
 -- ---- the whole numbers beside a value
 pub record Beside (n : ℕ) (x : Float) : Type 0 where

@@ -5,10 +5,9 @@ use mathlib.Core.List.{List}
 use lib.ListN.{length, getD, take, drop}
 use lib.Ieee.{Float, nan, binary32, binary64, le, sub, ofBits}
 use Rattle.numbers_spec.specs.Arithmetic.{_⊕_, _⊖_, _⊗_, _⊘_, one, atLeast, countOf, real}
-use Rattle.numbers_spec.specs.Logarithm.{log1pOf}
 use Rattle.numbers_spec.specs.Narrow.{nearestF32}
 use Rattle.numbers_spec.specs.Whole.{wholeNearest}
-use Rattle.numbers_spec.specs.Rows.{tabulate, sumTo}
+use Rattle.numbers_spec.specs.Rows.{tabulate, sumTo, logsOf}
 
 -- ---- the radius
 -- 250
@@ -29,8 +28,8 @@ wideHop hop = le one hop
 
 -- ---- a band's row
 -- The f32 logarithm of 1 + v, of each value.
-unfoldable pub logs : List Float → List Float
-logs values = tabulate (λ (i : ℕ). log1pOf (getD values i nan)) (length values)
+abbrev pub logs : List Float → List Float
+logs = logsOf
 
 -- The sum of the first n values, in f64.
 abbrev pub sumOf : List Float → ℕ → Float

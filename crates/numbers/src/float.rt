@@ -17,7 +17,7 @@ pub fn is_finite(x: f64) -> bool
     if x < 1.0 / 0.0 { x > -1.0 / 0.0 } else { false }
 }
 
-// The same of an f32.
+// Whether the f32 x is neither a NaN nor an infinity.
 pub fn is_finite_f32(x: f32) -> bool
     ensures { λ r. ⌜ r ≡ finite x ⌝ }
 {

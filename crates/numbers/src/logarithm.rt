@@ -1,8 +1,7 @@
 // L, which stands for the natural logarithm, `ln_1p` and `log10`: document 01's steps, each
 // operation rounded once.
-ghost use lib.Dec.{T};
-ghost use lib.Ieee.{isNan, lt};
-ghost use mathlib.Core.Bool.{cond, not};
+ghost use lib.Ieee.{inf, le, lt};
+ghost use mathlib.Core.Bool.{cond, false};
 ghost use mathlib.Core.Path.{_≡_};
 ghost use Rattle.numbers_spec.specs.Arithmetic.{_⊕_, _⊗_, one, zero⁺};
 ghost use Rattle.numbers_spec.specs.Logarithm.{exponent, half, log10Of, log1pOf, logAt, logOf, logSeries, logTwice, mantissa, sqrt2};
@@ -37,20 +36,25 @@ pub fn ln(v: f64) -> f64
     0.0 / 0.0
 }
 
-// m of v = m * 2 ^ e.
+// m of v = m * 2 ^ e. A NaN, whose pattern can't be read, has the digits of 1.5.
 pub fn mantissa(v: f64) -> f64
-    requires { ⌜ T (not (isNan v)) ⌝ }
     ensures { λ m. ⌜ m ≡ mantissa v ⌝ }
 {
-    f64::from_bits(f64::to_bits(v) % LEADING + ONE)
+    f64::from_bits(f64::to_bits(number_or(v, 1.5)) % LEADING + ONE)
 }
 
-// e of v = m * 2 ^ e.
+// e of v = m * 2 ^ e. A NaN has the exponent's field of an infinity.
 pub fn exponent(v: f64) -> f64
-    requires { ⌜ T (not (isNan v)) ⌝ }
     ensures { λ e. ⌜ e ≡ exponent v ⌝ }
 {
-    (f64::to_bits(v) / LEADING) as f64 - 1023.0
+    (f64::to_bits(number_or(v, 1.0 / 0.0)) / LEADING) as f64 - 1023.0
+}
+
+// v, or z where v is a NaN; without a branch.
+fn number_or(v: f64, z: f64) -> f64
+    ensures { λ r. ⌜ r ≡ cond (le v (inf false)) v z ⌝ }
+{
+    if v <= 1.0 / 0.0 { v } else { z }
 }
 
 // m, halved where it is above √2; and the e beside it. Both without a branch: which way an m goes is

@@ -65,7 +65,8 @@ fn narrow_bits(minus: bool, sig: u64, exp: u64) -> u64
     any_bits(minus, sig, exp)
 }
 
-// The same of all: subnormal results, zero and infinity too.
+// The pattern of the nearest f32, for what `narrow_bits` does not take itself: subnormal results,
+// zero and infinity.
 fn any_bits(minus: bool, sig: u64, exp: u64) -> u64
     requires { ⌜ sig < 2 ^ 53 ⌝ ∗ ⌜ exp ≤ 2045 ⌝ ∗ ⌜ (0 < exp → 2 ^ 52 ≤ sig) ⌝ }
     ensures { λ r. ⌜ r ≡ toBits binary32 (round binary32 minus (sig * 2 ^ exp) (2 ^ 1074)) ⌝ }

@@ -1,6 +1,6 @@
 -- What the passes over a row of logarithms share: that numbers below plus infinity go through them, one more place of a row, and that what the passes give is `ln_1p`. Assumes nothing.
 use mathlib.Core.Path.{_≡_, refl, sym, subst, ap, _∙_}
-use mathlib.Core.Bool.{Bool, Bool·beq, true, false, cond, not, _&&_}
+use mathlib.Core.Bool.{Bool, true, false, cond, not, _&&_}
 use mathlib.Core.List.{List}
 use Prim.Native.Nat.{ℕ, zero, suc, _+_, _-_, _*_, _≤_, _<_}
 use native.Mathlib.Nat.{zero-lt-suc, not-suc-le-zero, lt-irrefl, lt-of-lt-of-le, sub-zero, zero-add, add-zero, zero-mul, mul-one, one-mul}
@@ -17,7 +17,6 @@ use Rattle.numbers_spec.specs.Arithmetic.{_⊕_, _⊖_, _⊗_, _⊘_, zero⁺, 
 use Rattle.numbers_spec.specs.Exponential.{hi, lo}
 use Rattle.numbers_spec.specs.Logarithm.{sqrt2, seriesMost, mantissa, exponent, logSeries, logTwice, logOf, log1pWide, log1pOf}
 use Rattle.numbers_spec.specs.Narrow.{nearestF32}
-use Rattle.numbers_spec.proofs.Encode.{round-no-nan}
 use Rattle.numbers_spec.proofs.Chosen.{chosen}
 use Rattle.numbers_spec.specs.Values.{Normal}
 use Rattle.numbers_spec.proofs.Order.{lt→le, not-le→lt, le-transitive}
@@ -28,33 +27,12 @@ use Rattle.numbers_spec.proofs.RowLaws.{length-logs, log-at}
 use Rattle.numbers_rows.specs.Logs.{Below, AllBelow, Holds, Logged, nearOne, power, ratio, terms, joined}
 use Rattle.numbers_spec.specs.Rows.{logsOf}
 
--- ---- below plus infinity: neither it nor 1 + it is a NaN
+-- ---- what is below plus infinity is no NaN
 pub below-number : (w : Float) → Below w → T (not (isNan w))
 unfolding lt isNan
 below-number nan b = absurd b
 below-number (inf s) b = tt
 below-number (fin s m e) b = tt
-
-either-no-nan : (b : Bool) (x y : Float) → isNan x ≡ false → isNan y ≡ false → isNan (cond b x y) ≡ false
-either-no-nan true x y h k = h
-either-no-nan false x y h k = k
-
-sum-no-nan : (s : Bool) (a : ℕ) (t : Bool) (b c : ℕ) → isNan (sum binary64 s a t b c) ≡ false
-unfolding sum
-sum-no-nan s a t b c =
-    either-no-nan (Bool·beq s t) (round binary64 s (a + b) c) (cond (ltb a b) (round binary64 t (b - a) c) (round binary64 (s && ltb b a) (a - b) c))
-    (round-no-nan binary64 s (a + b) c)
-    (either-no-nan (ltb a b) (round binary64 t (b - a) c) (round binary64 (s && ltb b a) (a - b) c) (round-no-nan binary64 t (b - a) c) (round-no-nan binary64 (s && ltb b a) (a - b) c))
-
-pub one-more-number : (w : Float) → Below w → T (not (isNan (one ⊕ w)))
-unfolding lt isNan add
-one-more-number nan b = absurd b
-one-more-number (inf s) b = tt
-one-more-number (fin s m e) b = subst (λ (n : Bool). T (not n)) (sym (sum-no-nan false (1 * down e) s (m * up e * 1) (1 * down e))) tt
-
--- the same of an x that is w
-pub one-more-of : (x w : Float) → x ≡ w → Below w → T (not (isNan (one ⊕ x)))
-one-more-of x w e b = subst (λ (y : Float). T (not (isNan (one ⊕ y)))) (sym e) (one-more-number w b)
 
 -- ---- one more place of a row
 pub holds-more : (g : ℕ → Float) (n : ℕ) (row : List Float) {v : Float} → ((k : ℕ) → k < n → getD row k nan ≡ g k) → v ≡ g n → n < length row
@@ -111,9 +89,10 @@ terms-are z = refl
 abbrev part : ℕ → Float
 part i = one ⊘ ofInt binary64 (pos (2 * i + 1))
 
-pub four-are : (i : ℕ) (z q : Float) {a b c d : Float} → a ≡ part (i + 3) → b ≡ part (i + 2) → c ≡ part (i + 1) → d ≡ part i → (((q ⊗ z ⊕ a) ⊗ z ⊕ b) ⊗ z ⊕ c) ⊗ z ⊕ d ≡ terms 4 i z q
+pub four-are : (i : ℕ) (z q : Float) {a b c d r : Float} → a ≡ part (i + 3) → b ≡ part (i + 2) → c ≡ part (i + 1) → d ≡ part i → r ≡ (((q ⊗ z ⊕ a) ⊗ z ⊕ b) ⊗ z ⊕ c) ⊗ z ⊕ d
+    → r ≡ terms 4 i z q
 unfolding terms
-four-are i z q a b c d = rw (add-zero i) (λ j. (((q ⊗ z ⊕ a j) ⊗ z ⊕ b j) ⊗ z ⊕ c j) ⊗ z ⊕ d j)
+four-are i z q a b c d r = r ∙ rw (add-zero i) (λ j. (((q ⊗ z ⊕ a j) ⊗ z ⊕ b j) ⊗ z ⊕ c j) ⊗ z ⊕ d j)
 
 -- ---- what the passes give of one w
 abbrev pub ratioOf : Float → Float

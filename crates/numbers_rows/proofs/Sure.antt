@@ -112,6 +112,25 @@ module _ (x hh hl ll : Float) (F : T (fits binary64 x)) (h l c K : ℕ) (σ : Bo
         large (u .1) (b .0) (b .1) (subst (λ (s : Bool). Units binary64 x s (u .1)) (p .0) (u .2)) (p .1) (subst (λ (s : Bool). Minus s (u .1) false (h * h * 2 ^ 54 * w) (b .0) (b .1)) (p .0) (b .2 .0)) n-lt
 
     -- ---- forth: the first two differences are exact
+    -- the second difference is exact where the first one is n units, a multiple of 2 ^ 51
+    second-from : (s : Bool) (n m : ℕ) → Units binary64 d₁ s n → n ≡ m * 2 ^ 51 * w → (r : Bool) (a : ℕ) → Units binary64 d₂ r a → a < 2 ^ 54 * w
+        → (z : Bool) × (k : ℕ) × (Minus s n σ (h * l * 2 ^ 28 * w) z k × Units binary64 d₂ z k)
+    second-from s n m D e r a A L =
+        let b = sub-back d₁ hl s n σ (h * l * 2 ^ 28 * w) r a 1 (54 + K) D hl-is A (subst (λ (k : ℕ). a < k) (sym (raise 1 54)) L) (lit≤ tt) (fine 1 54 (lit≤ tt) (lit≤ tt)) in
+        exact (b .0) (b .1) (b .2 .0) (subst (λ (k : ℕ). b .1 < k) (raise 1 54) (b .2 .1))
+      where
+        exact : (z : Bool) (k : ℕ) → Minus s n σ (h * l * 2 ^ 28 * w) z k → k < 2 ^ 54 * w → (z : Bool) × (k : ℕ) × (Minus s n σ (h * l * 2 ^ 28 * w) z k × Units binary64 d₂ z k)
+        exact z k M K-lt =
+            let q = second-multiple s m σ (h * l) z k w (subst (λ (i : ℕ). Minus s i σ (h * l * 2 ^ 28 * w) z k) e M) w-pos in
+            multiple (q .0) (q .1)
+          where
+            multiple : (q : ℕ) → k ≡ q * 2 ^ 28 * w → (z : Bool) × (k : ℕ) × (Minus s n σ (h * l * 2 ^ 28 * w) z k × Units binary64 d₂ z k)
+            multiple q is-q =
+                let few : q ≤ 2 ^ 53 = kept q (2 ^ 28) (2 ^ 26) w (subst (λ (i : ℕ). i < 2 ^ 54 * w) is-q K-lt) (lit≤ tt) in
+                let is : k ≡ q * 2 ^ (28 + K) = is-q ∙ sym (raise q 28) in
+                let d = sub-exact d₁ hl s n σ (h * l * 2 ^ 28 * w) z k q (28 + K) D hl-is M is few (subst (λ (i : ℕ). i < 2 ^ 2098) (sym is) (fine q 28 few (lit≤ tt))) in
+                (d .0, k, (d .1 .0, d .1 .1))
+
     module _ (u : Under) where
       abbrev t : ℕ
       t = u .part * 2 ^ 51
@@ -131,13 +150,7 @@ module _ (x hh hl ll : Float) (F : T (fits binary64 x)) (h l c K : ℕ) (σ : Bo
       n₁ = first-exact .1
 
       second-exact : (z : Bool) × (n : ℕ) × (Minus s₁ n₁ σ (h * l * 2 ^ 28 * w) z n × Units binary64 d₂ z n)
-      second-exact =
-          let b = sub-back d₁ hl s₁ n₁ σ (h * l * 2 ^ 28 * w) (second .0) (second .1) 1 (54 + K) (first-exact .3 .1) hl-is (second .2 .0) (subst (λ (k : ℕ). second .1 < k) (sym (raise 1 54)) (second .2 .1)) (lit≤ tt) (fine 1 54 (lit≤ tt) (lit≤ tt)) in
-          let m = second-multiple s₁ (first-exact .2) σ (h * l) (b .0) (b .1) w (subst (λ (k : ℕ). Minus s₁ k σ (h * l * 2 ^ 28 * w) (b .0) (b .1)) (first-exact .3 .2) (b .2 .0)) w-pos in
-          let few : m .0 ≤ 2 ^ 53 = kept (m .0) (2 ^ 28) (2 ^ 26) w (subst (λ (z : ℕ). z < 2 ^ 54 * w) (m .1) (subst (λ (k : ℕ). b .1 < k) (raise 1 54) (b .2 .1))) (lit≤ tt) in
-          let is : b .1 ≡ m .0 * 2 ^ (28 + K) = m .1 ∙ sym (raise (m .0) 28) in
-          let d = sub-exact d₁ hl s₁ n₁ σ (h * l * 2 ^ 28 * w) (b .0) (b .1) (m .0) (28 + K) (first-exact .3 .1) hl-is (b .2 .0) is few (subst (λ (z : ℕ). z < 2 ^ 2098) (sym is) (fine (m .0) 28 few (lit≤ tt))) in
-          (d .0, b .1, (d .1 .0, d .1 .1))
+      second-exact = second-from s₁ n₁ (first-exact .2) (first-exact .3 .1) (first-exact .3 .2) (second .0) (second .1) (second .2 .0) (second .2 .1)
 
       abbrev s₂ : Bool
       s₂ = second-exact .0

@@ -17,10 +17,10 @@ use lib.Ieee.Scale.{finite}
 use Rattle.numbers_spec.specs.Arithmetic.{_⊕_, _⊖_, _⊗_, zero⁺, magnitude}
 use Rattle.numbers_spec.specs.Whole.{halfUp, wholeNearest}
 use Rattle.numbers_spec.specs.Exponential.{limit, limit⁻, log2e, hi, lo, expWhole, expRest}
-use Rattle.numbers_spec.specs.Values.{AtMost, Between}
+use Rattle.numbers_spec.specs.Values.{sided, AtMost, Between}
 use Rattle.numbers_spec.specs.ExpLaws.{restMost, ExpReduces}
 use Rattle.numbers_spec.proofs.Order.{P, Below, le→below, cross, le-self, le-transitive, between-finite, at-most-between, between-at-most}
-use Rattle.numbers_spec.proofs.Rounding.{sided, round-sided, magnitude-round}
+use Rattle.numbers_spec.proofs.Rounding.{round-sided, magnitude-round}
 use Rattle.numbers_spec.proofs.Sums.{sub-at-most}
 use Rattle.numbers_spec.proofs.Products.{mul-at-most}
 use Rattle.numbers_spec.proofs.ExactValues.{dyadic-exact, mul-value, rounded-below, rounded-above, sub-near}

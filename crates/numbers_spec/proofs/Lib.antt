@@ -9,12 +9,12 @@ pub mod Chosen
 pub mod RowLaws
 pub mod Order
 pub mod Rounding
+pub mod Placed
 pub mod Sums
 pub mod Products
 pub mod Within
 pub mod Narrowing
 pub mod ExactValues
-pub mod Placed
 pub mod Multiples
 pub mod Nearest
 pub mod RootLaws
@@ -22,6 +22,7 @@ pub mod WholeLaws
 pub mod CountLaws
 pub mod TwoTo
 pub mod ExpReduced
+pub mod ExpSeries
 pub mod ExpLaws
 pub mod Mantissa
 pub mod LogSeries

@@ -21,6 +21,7 @@ use Rattle.numbers_spec.specs.Exponential.{bias}
 use Rattle.numbers_spec.specs.Logarithm.{smallestNormal, mantissa, exponent}
 use Rattle.numbers_spec.proofs.Value.{field-under, value-low, value-high, by-fields, at-some, value-finite, same-fraction}
 use Rattle.numbers_spec.specs.Values.{Normal, Between}
+use Rattle.numbers_spec.specs.FloatLaws.{WholeFinite}
 use Rattle.numbers_spec.specs.LogLaws.{beyond₃₂, Splits}
 use Rattle.numbers_spec.proofs.Order.{positive-above, positive-sign}
 use Rattle.numbers_spec.proofs.Sums.{sub-mono}
@@ -200,7 +201,7 @@ mantissa-range v n =
     }
 
 -- ---- e lies where v's bounds put it
-pub whole-finite : (k : ℕ) → k ≤ 2 ^ 53 → T (finite (ofInt binary64 (pos k)))
+pub whole-finite : WholeFinite
 unfolding ofInt
 whole-finite k h = value-finite (round binary64 false k 1) false k 1 (round-whole binary64 false k h)
 

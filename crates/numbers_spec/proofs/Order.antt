@@ -16,7 +16,7 @@ use Rattle.numbers_spec.specs.Arithmetic.{zero⁺, magnitude}
 use Rattle.numbers_spec.proofs.Sign.{neg-neg}
 use Rattle.numbers_spec.proofs.Value.{finite-no-nan}
 use Rattle.numbers_spec.specs.Values.{Number, Den, AtMost, NotNegative, Between, Monotone}
-use Rattle.numbers_spec.specs.FloatLaws.{LeTransitive, LeReflexive, LeTotal, LtGivesLe, LeForbidsLt, NotLtGivesLe, NotLeGivesLt, BetweenFinite, NegAntitone, AtMostGivesBetween, BetweenGivesAtMost, AtMostFinite}
+use Rattle.numbers_spec.specs.FloatLaws.{LeTransitive, LeReflexive, LeSelf, LeTotal, LtGivesLe, LeForbidsLt, NotLtGivesLe, NotLeGivesLt, BetweenFinite, NegAntitone, NegFinite, MagnitudeNeg, MagnitudeAbove, PositiveAbove, PositiveNotNegative, AtMostGivesBetween, BetweenGivesAtMost, AtMostFinite}
 
 -- ---- ±a as P - N
 abbrev pub P : Bool → ℕ → ℕ
@@ -184,7 +184,7 @@ le-reflexive (inf true) h = unfold le in tt
 le-reflexive (inf false) h = unfold le in tt
 le-reflexive (fin s m e) h = below→le (fin s m e) (fin s m e) tt tt (le-refl _)
 
-pub le-self : (x : Float) → T (finite x) → T (le x x)
+pub le-self : LeSelf
 le-self x h = le-reflexive x (finite-no-nan x h)
 
 pub lt→le : LtGivesLe
@@ -315,7 +315,7 @@ neg-le (fin s m e) (fin t n d) h = turn s t (m * up e * down d) (n * up d * down
         flip false true h = omega arith
         flip false false h = omega arith
 
-pub neg-finite : (x : Float) → T (finite x) → T (finite (neg x))
+pub neg-finite : NegFinite
 unfolding neg
 neg-finite nan h = absurd h
 neg-finite (inf s) h = absurd h
@@ -328,7 +328,7 @@ magnitude-finite nan X = X
 magnitude-finite (inf s) X = absurd X
 magnitude-finite (fin s m e) X = tt
 
-pub magnitude-neg : (x : Float) → magnitude (neg x) ≡ magnitude x
+pub magnitude-neg : MagnitudeNeg
 unfolding magnitude neg
 magnitude-neg nan = refl
 magnitude-neg (inf s) = refl
@@ -340,7 +340,7 @@ magnitude-not-negative (inf s) h = unfold magnitude le in tt
 magnitude-not-negative (fin s m e) h = unfold magnitude in below→le zero⁺ (fin false m e) tt tt (omega arith)
 
 -- x ≤ |x|
-pub magnitude-above : (x : Float) → Number x → T (le x (magnitude x))
+pub magnitude-above : MagnitudeAbove
 magnitude-above nan h = absurd (unfold isNan in h)
 magnitude-above (inf true) h = unfold magnitude le in tt
 magnitude-above (inf false) h = unfold magnitude le in tt
@@ -385,7 +385,7 @@ no-negative-part (fin false m e) X h = refl
 no-negative-part (fin true m e) X h = let z = le→below zero⁺ (fin true m e) tt tt h in omega arith
 
 -- what is not below a positive value
-pub positive-above : (l y : Float) → T (positive l) → T (finite y) → T (le l y) → T (positive y)
+pub positive-above : PositiveAbove
 positive-above l y L Y h = go y Y (above-of-le l y L h)
   where
     go : (y : Float) → T (finite y) → T (above y) → T (positive y)
@@ -394,7 +394,7 @@ positive-above l y L Y h = go y Y (above-of-le l y L h)
     go (fin true m e) Y a = absurd a
     go (fin false m e) Y a = a
 
-pub positive-not-negative : (y : Float) → T (positive y) → NotNegative y
+pub positive-not-negative : PositiveNotNegative
 positive-not-negative nan Y = absurd Y
 positive-not-negative (inf s) Y = absurd Y
 positive-not-negative (fin true m e) Y = absurd Y

@@ -7,15 +7,15 @@ use mathlib.Core.Bool.{Bool, true, false, cond}
 use lib.IntN.{ℤ, pos}
 use lib.Dec.{T, eqb, eqb·suc-zero, eqb→eq, ltb→lt}
 use lib.Ieee.{Float, nan, inf, fin, Format, up, down, unlike, round, mul, div, le, isNan}
-use lib.Ieee.Fits.{up-pos}
+use lib.Ieee.Fits.{up-pos, down-pos}
 use lib.Ieee.Positive.{positive, positive-finite}
 use lib.Ieee.Scale.{finite}
 use Rattle.numbers_spec.specs.Arithmetic.{zero⁺, magnitude}
 use Rattle.numbers_spec.proofs.Value.{finite-no-nan}
 use Rattle.numbers_spec.specs.Values.{Number, Den, AtMost, NotNegative, Monotone}
-use Rattle.numbers_spec.specs.FloatLaws.{MulMonotone, MulMonotoneBy, MulMonotoneByPositive, MulNumber, DivMonotone, MulNotNegative, DivNotNegative, SquareNotNegative, MulAtMost, DivAtMost, MulBetween, MulBetweenBy}
+use Rattle.numbers_spec.specs.FloatLaws.{MulMonotone, MulMonotoneBy, MulMonotoneByPositive, MulNumber, DivMonotone, MulNotNegative, DivNotNegative, DivNotPositive, SquareNotNegative, MulAtMost, DivAtMost, MulBetween, MulBetweenBy}
 use Rattle.numbers_spec.proofs.Order.{P, N, Pos, Neg, den-pos, times, le→below, le-self, le-transitive, monotone-of-finite, between-finite, magnitude-finite, magnitude-not-negative, at-most-finite, no-negative-part, positive-above, positive-not-negative}
-use Rattle.numbers_spec.proofs.Rounding.{Is, Rounded, rounded-mono, zeros, round-sided, sided-number, sided-not-negative, magnitude-round}
+use Rattle.numbers_spec.proofs.Rounding.{Is, Rounded, rounded-mono, zeros, round-sided, sided-number, sided-not-negative, sided-not-positive, magnitude-round}
 
 -- ---- a product is a signed fraction, rounded
 mul-rounded : (f : Format) (x y : Float) → T (finite x) → T (finite y) → Rounded f (Pos x * Pos y + Neg x * Neg y) (Pos x * Neg y + Neg x * Pos y) (Den x * Den y) (mul f x y)
@@ -195,6 +195,20 @@ zero-over f (fin false n d) Y = div-is f false 0 (pos 0) false n d (ltb→lt 0 n
 
 pub div-not-negative : DivNotNegative
 div-not-negative f x y X Y p = rw (← zero-over f y Y) (div-mono f zero⁺ x y y tt X Y Y (le-self zero⁺ tt) p (le-self y (positive-finite y Y)))
+
+pub div-not-positive : DivNotPositive
+div-not-positive f nan y X Y h = absurd X
+div-not-positive f (inf s) y X Y h = absurd X
+div-not-positive f (fin s m e) nan X Y h = absurd Y
+div-not-positive f (fin s m e) (inf t) X Y h = absurd Y
+div-not-positive f (fin s m e) (fin true n d) X Y h = absurd Y
+div-not-positive f (fin true m e) (fin false n d) X Y h =
+    rw (div-is f true m e false n d (ltb→lt 0 n Y)) (sided-not-positive _ (round-sided f true (m * up e * down d) (n * up d * down e)))
+div-not-positive f (fin false m e) (fin false n d) X Y h =
+    let z = le→below (fin false m e) zero⁺ tt tt h in
+    let w : m * up e ≡ 0 = omega arith in
+    let N = ltb→lt 0 n Y in
+    rw (div-is f false m e false n d N, w, zero-mul (down d), zeros f false (n * up d * down e) (mul-pos (mul-pos N (up-pos d)) (down-pos e))) (le-self zero⁺ tt)
 
 -- ---- |x / y|
 magnitude-div : (f : Format) (x y : Float) → T (finite x) → T (finite y) → T (positive (magnitude y)) → magnitude (div f x y) ≡ div f (magnitude x) (magnitude y)

@@ -6,21 +6,18 @@ use native.Mathlib.Omega.{arith}
 use mathlib.Core.Bool.{Bool, true, false, Bool·beq, cond}
 use lib.IntN.{pos}
 use lib.Dec.{T, lit<, ltb}
-use lib.Ieee.{Float, nan, inf, fin, Format, binary32, binary64, prec, emax, low, odd, units, round, le, isNan}
+use lib.Ieee.{Float, nan, inf, fin, Format, binary32, binary64, prec, emax, low, odd, units, round, le, fits, isNan}
+use lib.Ieee.Back.{whole-unique}
 use lib.Ieee.Fits.{round-is}
 use lib.Ieee.Order.{round-mono}
 use lib.Ieee.Scale.{round-same}
 use Rattle.numbers_spec.specs.Arithmetic.{zero⁺, magnitude}
 use Rattle.numbers_spec.proofs.Sign.{neg-round}
-use Rattle.numbers_spec.specs.Values.{Number, NotNegative}
-use Rattle.numbers_spec.proofs.Order.{P, N, below→le, le-transitive, neg-le, magnitude-neg}
+use Rattle.numbers_spec.specs.Values.{NotNegative, sided}
+use Rattle.numbers_spec.specs.FloatLaws.{SidedNumber, SidedZero}
+use Rattle.numbers_spec.proofs.Order.{P, N, below→le, cross, le-transitive, neg-le, magnitude-neg}
 
 -- ---- x lies on the side s of zero, and is no NaN
-abbrev pub sided : Bool → Float → Bool
-sided s nan = false
-sided s (inf t) = Bool·beq t s
-sided s (fin t m e) = Bool·beq t s
-
 beq-refl : (s : Bool) → T (Bool·beq s s)
 beq-refl true = tt
 beq-refl false = tt
@@ -41,7 +38,7 @@ units-sided f s q k = go (ltb (q * 2 ^ k) (2 ^ (low f + suc (emax f))))
 pub round-sided : (f : Format) (s : Bool) (a c : ℕ) → T (sided s (round f s a c))
 round-sided f s a c = rw (round-is f s a c) (units-sided f s _ _)
 
-pub sided-number : (s : Bool) (x : Float) → T (sided s x) → Number x
+pub sided-number : SidedNumber
 unfolding isNan
 sided-number s nan h = h
 sided-number s (inf t) h = tt
@@ -55,13 +52,20 @@ sided-not-negative (inf false) h = tt
 sided-not-negative (fin true m e) h = absurd h
 sided-not-negative (fin false m e) h = below→le zero⁺ (fin false m e) tt tt (omega arith)
 
-sided-not-positive : (x : Float) → T (sided true x) → T (le x zero⁺)
+pub sided-not-positive : (x : Float) → T (sided true x) → T (le x zero⁺)
 unfolding le
 sided-not-positive nan h = absurd h
 sided-not-positive (inf true) h = tt
 sided-not-positive (inf false) h = absurd h
 sided-not-positive (fin true m e) h = below→le (fin true m e) zero⁺ tt tt (omega arith)
 sided-not-positive (fin false m e) h = absurd h
+
+pub sided-zero : SidedZero
+sided-zero nan f h k = absurd h
+sided-zero (inf true) f h k = absurd h
+sided-zero (inf false) f h k = absurd (unfold le in k)
+sided-zero (fin true m e) f h k = absurd h
+sided-zero (fin false m e) f h k = let z = cross m e 0 (pos 0) k in whole-unique binary64 (fin false m e) zero⁺ false 0 f (unfold fits in tt) (refl, omega arith) (refl, refl)
 
 -- ---- what is rounded, by its size
 plain : (x : Float) → T (sided false x) → magnitude x ≡ x

@@ -1,19 +1,21 @@
--- Sums and differences: they keep the order, x - x is +0, |x - y| is |y - x|, and |x ± y| is at most |x| + |y|. Assumes nothing.
-use mathlib.Core.Path.{_≡_, refl, sym, ap, ap₂, _∙_}
+-- Sums and differences: they keep the order, x + y ≥ x for y ≥ 0, x - x is +0, |x - y| is |y - x|, and |x ± y| is at most |x| + |y|. Assumes nothing.
+use mathlib.Core.Path.{_≡_, refl, sym, ap, ap₂, _∙_, subst}
+use mathlib.Core.Logic.{inl, inr}
 use Prim.Native.Nat.{ℕ, _+_, _-_, _*_, _≤_, _<_}
 use native.Mathlib.Nat.{lt-irrefl, le-trans, le-of-eq, mul-comm, mul-assoc, mul-left-comm, mul-le-mul-right, mul-pos, add-mul}
 use native.Mathlib.Omega.{arith}
 use mathlib.Core.Bool.{Bool, true, false, not, cond}
 use lib.Dec.{T, ltb, ltb→lt, nltb→le}
-use lib.Ieee.{Float, nan, inf, fin, Format, up, down, round, sum, add, sub, neg}
+use lib.Ieee.{Float, nan, inf, fin, Format, up, down, round, sum, add, sub, neg, le, fits}
 use lib.Ieee.Fits.{down-pos}
 use lib.Ieee.Order.{round-mono}
 use lib.Ieee.Scale.{finite}
 use Rattle.numbers_spec.specs.Arithmetic.{zero⁺, magnitude}
-use Rattle.numbers_spec.specs.Values.{Den, AtMost}
-use Rattle.numbers_spec.specs.FloatLaws.{AddMonotone, SubMonotone, SubAntitone, SubSelf, SubNotNegative, DistanceSymmetric, AddNotNegative, AddAtMost, SubAtMost, AddBetween}
-use Rattle.numbers_spec.proofs.Order.{P, N, P-mul, N-mul, Pos, Neg, den-pos, times, le→below, le-self, le-transitive, neg-le, neg-finite, between-finite, magnitude-finite, magnitude-neg, at-most-finite}
-use Rattle.numbers_spec.proofs.Rounding.{Is, Rounded, rounded-mono, zeros, magnitude-round, is-le}
+use Rattle.numbers_spec.specs.Values.{Number, sided, Den, AtMost}
+use Rattle.numbers_spec.specs.FloatLaws.{AddMonotone, AddGrows, SubMonotone, SubAntitone, SubSelf, SubNotNegative, SubNumber, SubSign, DistanceSymmetric, AddNotNegative, AddAtMost, SubAtMost, AddBetween}
+use Rattle.numbers_spec.proofs.Order.{P, N, P-mul, N-mul, Pos, Neg, den-pos, no-negative-part, times, tested→ordered, below→le, le→below, le-self, le-transitive, neg-le, neg-finite, between-finite, magnitude-finite, magnitude-neg, at-most-finite}
+use Rattle.numbers_spec.proofs.Rounding.{Is, Rounded, rounded-mono, is-own, zeros, round-sided, sided-number, magnitude-round, is-le}
+use Rattle.numbers_spec.proofs.Placed.{round-own}
 
 -- ---- a sum is a signed fraction, rounded
 pub sum-rounded : (f : Format) (s : Bool) (a : ℕ) (t : Bool) (b c : ℕ) → Rounded f (P s a + P t b) (N s a + N t b) c (sum f s a t b c)
@@ -178,3 +180,54 @@ add-at-most f x y b c B C h k =
 pub sub-at-most : SubAtMost
 unfolding sub
 sub-at-most f x y b c B C h k = add-at-most f x (neg y) b c B C h (rw magnitude-neg k)
+
+-- ---- the sign of a difference
+pub sub-number : SubNumber
+unfolding sub
+sub-number f x y X Y =
+    let r = add-rounded f x (neg y) X (neg-finite y Y) in
+    subst (λ (z : Float). Number z) (sym (r .rounded)) (sided-number (r .sign) _ (round-sided f (r .sign) (r .size) _))
+
+not-before : (a b : ℕ) → a ≤ b → ltb b a ≡ false
+not-before a b h = go (ltb b a) (ltb→lt b a)
+  where
+    go : (x : Bool) → (T x → b < a) → x ≡ false
+    go true f = absurd (lt-irrefl 0 (let k = f tt in omega arith))
+    go false f = refl
+
+either-sided : (f : Format) (b : Bool) (m n c : ℕ) → T (sided false (cond b (round f false m c) (round f false n c)))
+either-sided f true m n c = round-sided f false m c
+either-sided f false m n c = round-sided f false n c
+
+pub sub-sign : SubSign
+unfolding sub add neg sum le
+sub-sign f nan y X Y h = absurd X
+sub-sign f (inf s) y X Y h = absurd X
+sub-sign f (fin s m e) nan X Y h = absurd Y
+sub-sign f (fin s m e) (inf t) X Y h = absurd Y
+sub-sign f (fin true m e) (fin false n d) X Y h = inr (tt, below→le (fin true m e) zero⁺ tt tt (omega arith), below→le zero⁺ (fin false n d) tt tt (omega arith))
+sub-sign f (fin false m e) (fin true n d) X Y h = inl (round-sided f false (m * up e * down d + n * up d * down e) (down e * down d))
+sub-sign f (fin false m e) (fin false n d) X Y h =
+    let a = m * up e * down d in
+    let b = n * up d * down e in
+    let z = tested→ordered false b false a h in
+    inl (rw (not-before b a (omega arith)) (round-sided f false (a - b) (down e * down d)))
+sub-sign f (fin true m e) (fin true n d) X Y h =
+    let a = m * up e * down d in
+    let b = n * up d * down e in
+    let z = tested→ordered true b true a h in
+    inl (rw (not-before a b (omega arith)) (either-sided f (ltb a b) (b - a) (a - b) (down e * down d)))
+
+-- ---- a value is its own rounded value, so adding what is not negative does not lower it
+own-rounded : (f : Format) (x : Float) → T (fits f x) → T (finite x) → Rounded f (Pos x) (Neg x) (Den x) x
+own-rounded f nan F X = absurd X
+own-rounded f (inf s) F X = absurd X
+own-rounded f (fin s m e) F X = record { sign = s; size = m * up e; is = is-own s (m * up e); rounded = sym (round-own f s m e F) }
+
+pub add-grows : AddGrows
+add-grows f x y F X Y p =
+    rounded-mono f _ _ _ _ _ _ x (add f x y) (den-pos x) (mul-pos (den-pos x) (den-pos y)) (own-rounded f x F X) (add-rounded f x y X Y)
+    (rw (no-negative-part y Y p) (lin (Pos x) (Neg x) (Den x) (Pos y) (Den y)))
+  where
+    lin : (a n c b d : ℕ) → a * (c * d) + (n * d + 0 * c) * c ≤ (a * d + b * c) * c + n * (c * d)
+    lin a n c b d = omega arith

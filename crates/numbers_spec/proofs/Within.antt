@@ -5,6 +5,7 @@ use native.Mathlib.Nat.{le-trans, le-of-eq, lt-irrefl, mul-one, mul-comm, mul-as
 use native.Mathlib.Omega.{arith}
 use mathlib.Core.Bool.{Bool, true, false, cond, true≢false}
 use lib.ListN.{length}
+use lib.IntN.{pos}
 use lib.Dec.{T, lit<, eqb, eqb→eq}
 use lib.Pow.{pow-add, pow-pos}
 use lib.Ieee.{Float, nan, inf, fin, Format, emax, low, up, down, unlike, round, add, sub, mul, div, neg, le}
@@ -13,12 +14,12 @@ use lib.Ieee.Exact.{HasValue, round-exact}
 use lib.Ieee.Order.{round-mono}
 use lib.Ieee.Positive.{first-pos}
 use lib.Ieee.Scale.{finite}
-use Rattle.numbers_spec.specs.Arithmetic.{zero⁺}
+use Rattle.numbers_spec.specs.Arithmetic.{zero⁺, one, magnitude}
 use Rattle.numbers_spec.proofs.Sign.{neg-round}
-use Rattle.numbers_spec.specs.Values.{size, Den, Within, Holds, nothing, each, running}
-use Rattle.numbers_spec.specs.FloatLaws.{AddWithin, SubWithin, MulWithin, DivWithin, LeGivesSize, RunningWithin, SumWithin}
-use Rattle.numbers_spec.proofs.Order.{Pos, Neg, den-pos, tested→ordered}
-use Rattle.numbers_spec.proofs.Rounding.{sided, round-sided, is-le}
+use Rattle.numbers_spec.specs.Values.{sided, size, Den, AtMost, Within, Holds, nothing, each, running}
+use Rattle.numbers_spec.specs.FloatLaws.{AddWithin, SubWithin, MulWithin, DivWithin, LeGivesSize, OneGivesSize, RoundWithin, WithinGivesAtMost, AtMostGivesWithin, RunningWithin, SumWithin}
+use Rattle.numbers_spec.proofs.Order.{Pos, Neg, den-pos, tested→ordered, below→le, le→below, cross}
+use Rattle.numbers_spec.proofs.Rounding.{round-sided, is-le}
 use Rattle.numbers_spec.proofs.Sums.{add-rounded}
 
 -- ---- a fraction not above n * 2 ^ p, rounded
@@ -57,7 +58,7 @@ neg-within n p nan h = h
 neg-within n p (inf s) h = absurd (h .finite-is)
 neg-within n p (fin s m e) h = record { finite-is = tt; small = h .small }
 
-pub round-within : (f : Format) (s : Bool) (n p a c : ℕ) → 0 < c → Holds f n p → a ≤ n * 2 ^ p * c → Within n p (round f s a c)
+pub round-within : RoundWithin
 round-within f false n p a c C H h = round-plain f n p a c C H h
 round-within f true n p a c C H h = rw (← neg-round f a c) (neg-within n p (round f false a c) (round-plain f n p a c C H h))
 
@@ -140,6 +141,24 @@ le→size k (fin true m e) Y h = absurd (lt-irrefl 0 (let z = tested→ordered f
 le→size k (fin false m e) Y h =
     let z : 1 * 1 * down e + 0 ≤ m * up e * 2 ^ suc k + 0 = tested→ordered false (1 * 1 * down e) false (m * up e * 2 ^ suc k) h in
     omega arith
+
+pub one→size : OneGivesSize
+one→size nan Y h = absurd Y
+one→size (inf s) Y h = absurd Y
+one→size (fin true m e) Y h = let z = le→below one (fin true m e) tt tt h in let d = down-pos e in omega arith
+one→size (fin false m e) Y h = let z = le→below one (fin false m e) tt tt h in omega arith
+
+-- ---- the same bound as a float
+pub within-at-most : WithinGivesAtMost
+within-at-most n p nan X = absurd (X .finite-is)
+within-at-most n p (inf s) X = absurd (X .finite-is)
+within-at-most n p (fin s m e) X = unfold magnitude in below→le (fin false m e) (fin false n (pos p)) tt tt (let k = X .small in omega arith)
+
+pub at-most-within : AtMostGivesWithin
+unfolding magnitude
+at-most-within n p nan h = absurd (unfold le in h)
+at-most-within n p (inf s) h = absurd (unfold le in h)
+at-most-within n p (fin s m e) h = record { finite-is = tt; small = let k = cross m e n (pos p) h in omega arith }
 
 -- ---- running sums: what the prefix sums, the dot product's lanes and the sum over the bands are
 pub running-within : RunningWithin

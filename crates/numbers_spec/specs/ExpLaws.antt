@@ -6,7 +6,7 @@ use lib.Dec.{T}
 use lib.IntN.{ℤ, pos, negsuc}
 use lib.Ieee.{Float, fin, binary64, round, lt, le, ofInt}
 use lib.Ieee.Scale.{finite}
-use Rattle.numbers_spec.specs.Arithmetic.{zero⁺, one, two}
+use Rattle.numbers_spec.specs.Arithmetic.{zero⁺, one}
 use Rattle.numbers_spec.specs.Exponential.{limit, limit⁻, twoTo, expSeries, expWhole, expRest, expOf, tenTo}
 use Rattle.numbers_spec.specs.Values.{Number, NotNegative, Between}
 
@@ -53,13 +53,13 @@ abbrev pub ExpSeriesBounded : Type 0
 ExpSeriesBounded = (r : Float) → Between restMost⁻ restMost r → Between sumLeast sumMost (expSeries 13 r one)
 
 -- ---- E and 10^y
--- g x is no NaN, not negative, above zero from x = l on, finite up to x = u, and at most 2 up to x = 0.
+-- g x is no NaN, not negative, above zero from x = l on, finite up to x = u, and at most 1, so from 0 to 1, up to x = 0.
 pub record Exponential (g : Float → Float) (l u x : Float) : Type 0 where
   pub number : Number (g x)
   pub not-negative : NotNegative (g x)
   pub above-zero : T (le l x) → T (lt zero⁺ (g x))
   pub is-finite : T (le x u) → T (finite (g x))
-  pub at-most-two : T (le x zero⁺) → T (le (g x) two)
+  pub at-most-one : T (le x zero⁺) → T (le (g x) one)
 
 -- So is E for every x that is no NaN, with l = -690 and u = 690.
 abbrev pub ExpLaws : Type 0

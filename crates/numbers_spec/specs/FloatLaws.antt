@@ -1,19 +1,19 @@
 -- Laws of float arithmetic, for all signs and both formats: what matcher and engine use of the order, of sums, products and quotients, and of narrowing. Definitions only.
 -- `lt` and `le` are IEEE 754's order: -0 equals +0, and a NaN is neither below nor above anything. An operation rounds its exact result once.
-use Prim.Native.Nat.{ℕ, suc, _+_, _*_, _^_, _≤_}
-use mathlib.Core.Bool.{false, not}
+use Prim.Native.Nat.{ℕ, suc, _+_, _*_, _^_, _≤_, _<_}
+use mathlib.Core.Bool.{Bool, true, false, not}
 use mathlib.Core.List.{List}
 use mathlib.Core.Logic.{_⊎_}
 use mathlib.Core.Path.{_≡_}
 use lib.Dec.{T}
-use lib.IntN.{negsuc}
+use lib.IntN.{pos, negsuc}
 use lib.ListN.{length}
-use lib.Ieee.{Float, fin, Format, binary32, add, sub, mul, div, neg, lt, le, fits}
+use lib.Ieee.{Float, fin, Format, binary32, binary64, round, add, sub, mul, div, neg, lt, le, fits}
 use lib.Ieee.Positive.{positive}
 use lib.Ieee.Scale.{finite}
-use Rattle.numbers_spec.specs.Arithmetic.{zero⁺, magnitude}
+use Rattle.numbers_spec.specs.Arithmetic.{zero⁺, one, real, magnitude}
 use Rattle.numbers_spec.specs.Narrow.{nearestF32}
-use Rattle.numbers_spec.specs.Values.{Number, size, Den, AtMost, NotNegative, Between, Monotone, Within, Holds, Each, running}
+use Rattle.numbers_spec.specs.Values.{Number, sided, size, Den, AtMost, NotNegative, Between, Monotone, Within, Holds, Each, running}
 
 -- ---- the order
 -- x ≤ y and y ≤ z give x ≤ z, on all values.
@@ -23,6 +23,16 @@ LeTransitive = (x y z : Float) → T (le x y) → T (le y z) → T (le x z)
 -- x ≤ x, but for a NaN
 abbrev pub LeReflexive : Type 0
 LeReflexive = (x : Float) → Number x → T (le x x)
+
+-- A finite value is no NaN, and x ≤ x; and so is its negation finite.
+abbrev pub FiniteNumber : Type 0
+FiniteNumber = (x : Float) → T (finite x) → Number x
+
+abbrev pub LeSelf : Type 0
+LeSelf = (x : Float) → T (finite x) → T (le x x)
+
+abbrev pub NegFinite : Type 0
+NegFinite = (x : Float) → T (finite x) → T (finite (neg x))
 
 -- Of two values that are no NaN, one is at most the other.
 abbrev pub LeTotal : Type 0
@@ -51,6 +61,13 @@ BetweenFinite = (l u x : Float) → T (finite l) → T (finite u) → Between l 
 abbrev pub NegAntitone : Type 0
 NegAntitone = (x y : Float) → T (le x y) → T (le (neg y) (neg x))
 
+-- |-x| is |x|, and x ≤ |x|.
+abbrev pub MagnitudeNeg : Type 0
+MagnitudeNeg = (x : Float) → magnitude (neg x) ≡ magnitude x
+
+abbrev pub MagnitudeAbove : Type 0
+MagnitudeAbove = (x : Float) → Number x → T (le x (magnitude x))
+
 -- |x| ≤ b is -b ≤ x ≤ b, on all values.
 abbrev pub AtMostGivesBetween : Type 0
 AtMostGivesBetween = (b x : Float) → AtMost b x → Between (neg b) b x
@@ -62,7 +79,40 @@ BetweenGivesAtMost = (b x : Float) → Between (neg b) b x → AtMost b x
 abbrev pub AtMostFinite : Type 0
 AtMostFinite = (b x : Float) → T (finite b) → AtMost b x → T (finite x)
 
+-- What is finite and no less than a value above 0 lies above 0; and what lies above 0 is not negative.
+abbrev pub PositiveAbove : Type 0
+PositiveAbove = (l y : Float) → T (positive l) → T (finite y) → T (le l y) → T (positive y)
+
+abbrev pub PositiveNotNegative : Type 0
+PositiveNotNegative = (y : Float) → T (positive y) → NotNegative y
+
+-- ---- signs
+-- What has a sign is no NaN.
+abbrev pub SidedNumber : Type 0
+SidedNumber = (s : Bool) (x : Float) → T (sided s x) → Number x
+
+-- An f64 without a minus that is not above 0 is +0.
+abbrev pub SidedZero : Type 0
+SidedZero = (x : Float) → T (fits binary64 x) → T (sided false x) → T (le x zero⁺) → x ≡ zero⁺
+
+-- Where y ≤ x, x - y has no minus, but for x = -0 and y = +0: those are the x with a minus and the y not below 0 that y ≤ x leaves.
+abbrev pub SubSign : Type 0
+SubSign = (f : Format) (x y : Float) → T (finite x) → T (finite y) → T (le y x) → T (sided false (sub f x y)) ⊎ (T (sided true x) × T (le x zero⁺) × T (le zero⁺ y))
+
+-- ---- whole numbers as floats
+-- A whole number up to 2 ^ 53 is a finite f64.
+abbrev pub WholeFinite : Type 0
+WholeFinite = (n : ℕ) → n ≤ 2 ^ 53 → T (finite (real n))
+
 -- ---- sums and differences
+-- The difference of finite values is no NaN, though it may be infinite.
+abbrev pub SubNumber : Type 0
+SubNumber = (f : Format) (x y : Float) → T (finite x) → T (finite y) → Number (sub f x y)
+
+-- A value of the format does not fall where what is not negative is added.
+abbrev pub AddGrows : Type 0
+AddGrows = (f : Format) (x y : Float) → T (fits f x) → T (finite x) → T (finite y) → NotNegative y → T (le x (add f x y))
+
 -- A sum grows with both its parts.
 abbrev pub AddMonotone : Type 0
 AddMonotone = (f : Format) (x x' y y' : Float) → T (finite x) → T (finite x') → T (finite y) → T (finite y') → T (le x x') → T (le y y') → T (le (add f x y) (add f x' y'))
@@ -110,12 +160,15 @@ MulNumber = (f : Format) (x k : Float) → T (positive k) → Number x → Numbe
 abbrev pub DivMonotone : Type 0
 DivMonotone = (f : Format) (x x' y y' : Float) → T (finite x) → T (finite x') → T (positive y) → T (positive y') → NotNegative x → T (le x x') → T (le y' y) → T (le (div f x y) (div f x' y'))
 
--- Products and quotients of values that are not negative are not, and no square is.
+-- Products and quotients of values that are not negative are not, and no square is; a quotient of a value that is not above 0 is not.
 abbrev pub MulNotNegative : Type 0
 MulNotNegative = (f : Format) (x y : Float) → T (finite x) → T (finite y) → NotNegative x → NotNegative y → NotNegative (mul f x y)
 
 abbrev pub DivNotNegative : Type 0
 DivNotNegative = (f : Format) (x y : Float) → T (finite x) → T (positive y) → NotNegative x → NotNegative (div f x y)
+
+abbrev pub DivNotPositive : Type 0
+DivNotPositive = (f : Format) (x y : Float) → T (finite x) → T (positive y) → T (le x zero⁺) → T (le (div f x y) zero⁺)
 
 abbrev pub SquareNotNegative : Type 0
 SquareNotNegative = (f : Format) (x : Float) → T (finite x) → NotNegative (mul f x x)
@@ -162,6 +215,21 @@ DivWithin = (f : Format) (n p k : ℕ) (x y : Float) → Holds f n (p + k) → W
 -- such as a finite y ≥ 2 ^ -(k + 1)
 abbrev pub LeGivesSize : Type 0
 LeGivesSize = (k : ℕ) (y : Float) → T (finite y) → T (le (fin false 1 (negsuc k)) y) → Den y ≤ size y * 2 ^ suc k
+
+-- and as a finite y ≥ 1, where k is 0
+abbrev pub OneGivesSize : Type 0
+OneGivesSize = (y : Float) → T (finite y) → T (le one y) → Den y ≤ size y * 2 ^ 0
+
+-- A fraction a / c within the bound stays there when it is rounded.
+abbrev pub RoundWithin : Type 0
+RoundWithin = (f : Format) (s : Bool) (n p a c : ℕ) → 0 < c → Holds f n p → a ≤ n * 2 ^ p * c → Within n p (round f s a c)
+
+-- |x| ≤ n * 2 ^ p, and the same of the float n * 2 ^ p
+abbrev pub WithinGivesAtMost : Type 0
+WithinGivesAtMost = (n p : ℕ) (x : Float) → Within n p x → AtMost (fin false n (pos p)) x
+
+abbrev pub AtMostGivesWithin : Type 0
+AtMostGivesWithin = (n p : ℕ) (x : Float) → AtMost (fin false n (pos p)) x → Within n p x
 
 -- A running sum from an s within n * 2 ^ p, over values within 2 ^ p; and from 0.
 abbrev pub RunningWithin : Type 0

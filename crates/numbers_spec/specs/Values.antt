@@ -1,6 +1,6 @@
 -- Words of the statements: values as whole numbers, bounds, and running sums. Definitions only.
 use Prim.Native.Nat.{ℕ, suc, _+_, _-_, _*_, _^_, _≤_, _<_}
-use mathlib.Core.Bool.{Bool, Bool·beq, cond, not}
+use mathlib.Core.Bool.{Bool, Bool·beq, false, cond, not}
 use mathlib.Core.List.{List, [], _∷_}
 use lib.Dec.{T}
 use lib.Ieee.{Float, nan, inf, fin, Format, binary64, prec, emax, low, up, down, add, le, fits, isNan}
@@ -18,6 +18,12 @@ pub record Normal (v : Float) : Type 0 where
   pub held : T (fits binary64 v)
   pub finite-is : T (finite v)
   pub least : T (le smallestNormal v)
+
+-- x has the sign s, `true` for a minus; a zero has one too, and a NaN none.
+abbrev pub sided : Bool → Float → Bool
+sided s nan = false
+sided s (inf t) = Bool·beq t s
+sided s (fin t m e) = Bool·beq t s
 
 -- ---- finite values as whole numbers
 -- |x| is size x / Den x, for a finite x.

@@ -1,12 +1,14 @@
 -- Whole numbers near a value. Assumes nothing.
 use mathlib.Core.Path.{_≡_, refl, sym, ap, _∙_, subst}
 use Prim.Native.Nat.{ℕ, zero, suc, _+_, _-_, _*_, _/_, _%_, _^_, _≤_, _<_}
-use native.Mathlib.Nat.{le-trans, le-of-eq, lt-of-lt-of-le, lt-of-le-of-lt, mul-one, mul-assoc, mul-right-comm, mul-pos, zero-lt-suc, eq-of-mul-eq-mul-right, div-lt-iff-lt-mul, mul-div-cancel, div-add-mod', div-le-self, div-eq-of-lt, zero-mul, zero-mod, zero-div, mod-lt}
+use native.Mathlib.Nat.{le-trans, le-of-eq, lt-of-lt-of-le, lt-of-le-of-lt, mul-one, mul-assoc, mul-right-comm, mul-pos, zero-lt-suc, eq-of-mul-eq-mul-right, div-lt-iff-lt-mul, div-add-mod', div-le-self, div-eq-of-lt, zero-mul, zero-mod, zero-div, mod-lt}
 use native.Mathlib.Omega.{arith}
 use mathlib.Core.Bool.{Bool, true, false, cond}
 use lib.Dec.{T, eqb, lit≤, eqb·suc-zero}
 use lib.Pow.{pow-pos, pow-mono, pow-add, shl-lt}
+use lib.IntN.{ℤ}
 use lib.Ieee.{Float, nan, inf, fin, binary64, up, down, round, fits}
+use lib.Ieee.Scale.{finite}
 use lib.Ieee.Fits.{round-fits, down-pos}
 use lib.Ieee.Exact.{HasValue, round-exact}
 use lib.Ieee.Nearest.{div-same}
@@ -69,42 +71,45 @@ cross X D sig exp h e =
     eq-of-mul-eq-mul-right (2 ^ exp) (pow-pos exp) (X * 2 ^ (1074 - exp)) (sig * D)
     (mul-assoc X (2 ^ (1074 - exp)) (2 ^ exp) ∙ ap (λ (z : ℕ). X * z) (sym (pow-add 2 (1074 - exp) exp) ∙ ap (λ (z : ℕ). 2 ^ z) (apart exp h)) ∙ e ∙ mul-right-comm sig (2 ^ exp) D)
 
-module _ (x : Float) (s : Bool) (sig exp : ℕ) (P : HasValue x s (sig * 2 ^ exp) (2 ^ 1074)) (h : exp < 1074) where
-  abbrev pub C : ℕ
-  C = 2 ^ (1074 - exp)
+-- ---- rounding by a rule
+-- q brings a fraction n / d to a whole number, by the sign of the value: equal fractions to the same one, and a whole number to itself. g brings a float to a whole one by that rule.
+pub record Rounds (q : Bool → ℕ → ℕ → ℕ) (g : Float → Float) : Type 0 where
+  pub same : (s : Bool) (X D n d : ℕ) → 0 < D → 0 < d → X * d ≡ n * D → q s X D ≡ q s n d
+  pub whole : (s : Bool) (n : ℕ) → q s n 1 ≡ n
+  pub is : (s : Bool) (m : ℕ) (e : ℤ) → g (fin s m e) ≡ round binary64 s (q s (m * up e) (down e)) 1
+  pub other : (x : Float) → finite x ≡ false → x ≡ g x
 
-  pub nearest-small : round binary64 s (halfUp sig C) 1 ≡ wholeNearest x
-  unfolding wholeNearest
-  nearest-small = go x P
-    where
-      go : (y : Float) → HasValue y s (sig * 2 ^ exp) (2 ^ 1074) → round binary64 s (halfUp sig C) 1 ≡ wholeNearest y
-      go nan k = absurd k
-      go (inf t) k = absurd k
-      go (fin t m e) k =
-          ap (λ (b : Bool). round binary64 b (halfUp sig C) 1) (sym (k .0))
-          ∙ ap (λ (n : ℕ). round binary64 t n 1) (sym (halfUp-same (m * up e) (down e) sig C (down-pos e) (pow-pos (1074 - exp)) (cross (m * up e) (down e) sig exp h (k .1))))
+halfUp-whole : (n : ℕ) → halfUp n 1 ≡ n
+halfUp-whole n = omega arith
 
-  pub below-small : round binary64 s (cond s (upward sig C) (sig / C)) 1 ≡ wholeBelow x
-  unfolding wholeBelow
-  below-small = go x P
-    where
-      go : (y : Float) → HasValue y s (sig * 2 ^ exp) (2 ^ 1074) → round binary64 s (cond s (upward sig C) (sig / C)) 1 ≡ wholeBelow y
-      go nan k = absurd k
-      go (inf t) k = absurd k
-      go (fin t m e) k =
-          let e' = cross (m * up e) (down e) sig exp h (k .1) in
-          ap (λ (b : Bool). round binary64 b (cond b (upward sig C) (sig / C)) 1) (sym (k .0))
-          ∙ ap (λ (n : ℕ). round binary64 t (cond t n (sig / C)) 1) (sym (upward-same (m * up e) (down e) sig C (down-pos e) (pow-pos (1074 - exp)) e'))
-          ∙ ap (λ (n : ℕ). round binary64 t (cond t (upward (m * up e) (down e)) n) 1) (sym (div-same (m * up e) (down e) sig C (down-pos e) (pow-pos (1074 - exp)) e'))
+upward-whole : (n : ℕ) → upward n 1 ≡ n
+upward-whole n = ap (λ (r : ℕ). cond (eqb r 0) (n / 1) (suc (n / 1))) (native.Mathlib.Nat.mod-one n) ∙ native.Mathlib.Nat.div-one n
 
-halfUp-one : (W D : ℕ) → 0 < D → halfUp (W * D) D ≡ W
-halfUp-one W D P = halfUp-same (W * D) D W 1 P (zero-lt-suc 0) (mul-one (W * D)) ∙ odd-half W
+pub nearest-rounds : Rounds (λ s n d. halfUp n d) wholeNearest
+unfolding wholeNearest
+nearest-rounds = record { same = λ s. halfUp-same; whole = λ s. halfUp-whole; is = λ s m e. refl; other = other }
   where
-    odd-half : (w : ℕ) → (2 * w + 1) / 2 ≡ w
-    odd-half w = omega arith
+    other : (x : Float) → finite x ≡ false → x ≡ wholeNearest x
+    other nan h = refl
+    other (inf s) h = refl
+    other (fin s m e) h = absurd (mathlib.Core.Bool.true≢false h)
 
-upward-one : (W D : ℕ) → 0 < D → upward (W * D) D ≡ W
-upward-one W D P = upward-same (W * D) D W 1 P (zero-lt-suc 0) (mul-one (W * D)) ∙ ap (λ (r : ℕ). cond (eqb r 0) (W / 1) (suc (W / 1))) (native.Mathlib.Nat.mod-one W) ∙ native.Mathlib.Nat.div-one W
+pub below-rounds : Rounds (λ s n d. cond s (upward n d) (n / d)) wholeBelow
+unfolding wholeBelow
+below-rounds = record { same = same; whole = whole; is = λ s m e. refl; other = other }
+  where
+    same : (s : Bool) (X D n d : ℕ) → 0 < D → 0 < d → X * d ≡ n * D → cond s (upward X D) (X / D) ≡ cond s (upward n d) (n / d)
+    same true = upward-same
+    same false = div-same
+
+    whole : (s : Bool) (n : ℕ) → cond s (upward n 1) (n / 1) ≡ n
+    whole true = upward-whole
+    whole false = native.Mathlib.Nat.div-one
+
+    other : (x : Float) → finite x ≡ false → x ≡ wholeBelow x
+    other nan h = refl
+    other (inf s) h = refl
+    other (fin s m e) h = absurd (mathlib.Core.Bool.true≢false h)
 
 whole-cross : (X D sig exp : ℕ) → 1074 ≤ exp → X * 2 ^ 1074 ≡ sig * 2 ^ exp * D → X ≡ sig * 2 ^ (exp - 1074) * D
 whole-cross X D sig exp h e =
@@ -114,52 +119,42 @@ whole-cross X D sig exp h e =
     back : (k : ℕ) → 1074 ≤ k → k - 1074 + 1074 ≡ k
     back k g = omega arith
 
-both-same : (b : Bool) (n : ℕ) → cond b n n ≡ n
-both-same true n = refl
-both-same false n = refl
-
-module _ (s : Bool) (sig exp : ℕ) (h : 1074 ≤ exp) where
-  abbrev W : ℕ
-  W = sig * 2 ^ (exp - 1074)
-
-  scaled : W * 2 ^ 1074 ≡ sig * 2 ^ exp * 1
-  scaled =
-      mul-assoc sig (2 ^ (exp - 1074)) (2 ^ 1074) ∙ ap (λ (z : ℕ). sig * z) (sym (pow-add 2 (exp - 1074) 1074) ∙ ap (λ (z : ℕ). 2 ^ z) (back exp h)) ∙ sym (mul-one (sig * 2 ^ exp))
+module _ {q : Bool → ℕ → ℕ → ℕ} {g : Float → Float} (r : Rounds q g) (x : Float) (s : Bool) (sig exp : ℕ) (P : Parted x s sig exp) where
+  -- where x has a fraction, the rule is applied to sig / 2 ^ (1074 - exp)
+  pub rounds-small : exp < 1074 → {k : ℕ} {y : Float} → y ≡ round binary64 s k 1 → k ≡ q s sig (2 ^ (1074 - exp)) → y ≡ g x
+  rounds-small h {k} p e = p ∙ ap (λ (n : ℕ). round binary64 s n 1) e ∙ go x (P .value)
     where
+      go : (y : Float) → HasValue y s (sig * 2 ^ exp) (2 ^ 1074) → round binary64 s (q s sig (2 ^ (1074 - exp))) 1 ≡ g y
+      go nan v = absurd v
+      go (inf t) v = absurd v
+      go (fin t m e) v =
+          ap (λ (b : Bool). round binary64 b (q b sig (2 ^ (1074 - exp))) 1) (sym (v .0))
+          ∙ ap (λ (n : ℕ). round binary64 t n 1) (sym (r .same t (m * up e) (down e) sig (2 ^ (1074 - exp)) (down-pos e) (pow-pos (1074 - exp)) (cross (m * up e) (down e) sig exp h (v .1))))
+          ∙ sym (r .is t m e)
+
+  -- where it has none, it is given back
+  pub rounds-large : 1074 ≤ exp → T (fits binary64 x) → x ≡ g x
+  rounds-large h F = go x F P
+    where
+      W : ℕ
+      W = sig * 2 ^ (exp - 1074)
+
       back : (k : ℕ) → 1074 ≤ k → k - 1074 + 1074 ≡ k
-      back k g = omega arith
+      back k j = omega arith
 
-  pub nearest-large : (x : Float) → T (fits binary64 x) → Parted x s sig exp → x ≡ wholeNearest x
-  unfolding wholeNearest
-  nearest-large nan F P = refl
-  nearest-large (inf t) F P = refl
-  nearest-large (fin t m e) F P =
-      sym (round-own (fin t m e) s sig exp W 1 F P (zero-lt-suc 0) scaled)
-      ∙ ap (λ (b : Bool). round binary64 b W 1) (sym (P .value .0))
-      ∙ ap (λ (n : ℕ). round binary64 t n 1) (sym (ap (λ (n : ℕ). halfUp n (down e)) (whole-cross (m * up e) (down e) sig exp h (P .value .1)) ∙ halfUp-one W (down e) (down-pos e)))
+      scaled : W * 2 ^ 1074 ≡ sig * 2 ^ exp * 1
+      scaled = mul-assoc sig (2 ^ (exp - 1074)) (2 ^ 1074) ∙ ap (λ (z : ℕ). sig * z) (sym (pow-add 2 (exp - 1074) 1074) ∙ ap (λ (z : ℕ). 2 ^ z) (back exp h)) ∙ sym (mul-one (sig * 2 ^ exp))
 
-  pub below-large : (x : Float) → T (fits binary64 x) → Parted x s sig exp → x ≡ wholeBelow x
-  unfolding wholeBelow
-  below-large nan F P = refl
-  below-large (inf t) F P = refl
-  below-large (fin t m e) F P =
-      let w = whole-cross (m * up e) (down e) sig exp h (P .value .1) in
-      sym (round-own (fin t m e) s sig exp W 1 F P (zero-lt-suc 0) scaled)
-      ∙ ap (λ (b : Bool). round binary64 b W 1) (sym (P .value .0))
-      ∙ ap (λ (n : ℕ). round binary64 t n 1)
-      (sym (ap (λ (n : ℕ). cond t (upward n (down e)) (n / down e)) w ∙ ap (λ (n : ℕ). cond t n (W * down e / down e)) (upward-one W (down e) (down-pos e)) ∙ ap (λ (n : ℕ). cond t W n) (mul-div-cancel W (down-pos e)) ∙ both-same t W))
-
-pub nearest-other : (x : Float) → lib.Ieee.Scale.finite x ≡ false → x ≡ wholeNearest x
-unfolding wholeNearest
-nearest-other nan h = refl
-nearest-other (inf s) h = refl
-nearest-other (fin s m e) h = absurd (mathlib.Core.Bool.true≢false h)
-
-pub below-other : (x : Float) → lib.Ieee.Scale.finite x ≡ false → x ≡ wholeBelow x
-unfolding wholeBelow
-below-other nan h = refl
-below-other (inf s) h = refl
-below-other (fin s m e) h = absurd (mathlib.Core.Bool.true≢false h)
+      go : (y : Float) → T (fits binary64 y) → Parted y s sig exp → y ≡ g y
+      go nan F P = r .other nan refl
+      go (inf t) F P = r .other (inf t) refl
+      go (fin t m e) F P =
+          let n = m * up e in
+          let w : n * 1 ≡ W * down e = mul-one n ∙ whole-cross n (down e) sig exp h (P .value .1) in
+          sym (round-own (fin t m e) s sig exp W 1 F P (zero-lt-suc 0) scaled)
+          ∙ ap (λ (b : Bool). round binary64 b W 1) (sym (P .value .0))
+          ∙ ap (λ (n : ℕ). round binary64 t n 1) (sym (r .same t n (down e) W 1 (down-pos e) (zero-lt-suc 0) w ∙ r .whole t W))
+          ∙ sym (r .is t m e)
 
 more : (s c : ℕ) → 0 < c → 2 * s + c < (s + 2) * (2 * c)
 more s c h =

@@ -9,6 +9,7 @@ use lib.ListN.{length, take, drop, length-take}
 use lib.Seq.{take-all, length-take-le}
 use Rattle.matcher_spec.specs.Centring.{centred}
 use Rattle.matcher_spec.specs.Energy.{allEnergies}
+use Rattle.matcher_spec.specs.Index.{fineValues}
 use Rattle.numbers_spec.specs.Rows.{row, rows}
 use Rattle.matcher.proofs.SearchLaws.{one-row, front-and-rest, drop-past, centred-within}
 use Rattle.matcher.proofs.index.fill_fine.Statement.{statement}
@@ -42,22 +43,26 @@ slice-aggregate-fill-energies c = simp length-take (omega arith)
 fill-energies-requires : tie.Need-fill-energies-requires
 fill-energies-requires c κs = (simp length-take (omega arith), omega arith)
 
+-- rows that are centred from their first frame to their last
+uncut : (r bands n : ℕ) (v fine : List Float) → take (bands * n) fine ≡ rows (λ (b : ℕ). take n (drop 0 (centred r (row n v b)))) bands → take (bands * n) fine ≡ fineValues r bands n v
+uncut r bands n v fine e = e ∙ (λ i. rows (λ (b : ℕ). take-all n (centred r (row n v b)) (centred-within r n b v) i) bands)
+
+-- the energies of a front, written over the sums
+over-sums : (bands n : ℕ) (sums d : List Float) {front fine energy : List Float} → length sums ≡ n + 1 → n + 1 ≤ bands * (n + 1) → front ≡ fine
+    → energy ≡ allEnergies bands n front ++ drop (bands * (n + 1)) (sums ++ drop (n + 1) d) → energy ≡ allEnergies bands n fine ++ drop (bands * (n + 1)) d
+over-sums bands n sums d l h e p = p ∙ (λ i. allEnergies bands n (e i) ++ drop-past sums d (n + 1) (bands * (n + 1)) l h i)
+
 returns : tie.Need-returns
 returns c =
-    let at = c .before .before .before .before .before .before .before .before .before in
-    let a = at .before .before .before .before .before .before .args in
+    let done = c .before .before .before .before .before .before .before .before .before .centre-bands in
+    let a = c .before .before .before .before .before .before .before .before .before .before .before .before .before .before .before .args in
     let n = a .n in
     let bands = a .bands in
-    let v : List Float = a .values .now in
     let h : n + 1 ≤ length (a .energy .now) = one-row {bands = bands} (n + 1) (omega arith) (omega arith) in
-    let uncut : (b : ℕ) → take n (drop 0 (centred (a .radius) (row n v b))) ≡ centred (a .radius) (row n v b) = λ b. take-all n _ (centred-within (a .radius) n b v) in
-    let front = at .centre-bands .ensures .0 ∙ (λ i. rows (λ (b : ℕ). uncut b i) bands) in
-    let same : bands * n + (n - n) ≡ bands * n = omega arith in
-    let sums : List Float = at .centre-bands .last .1 .0 in
-    let room : length sums ≡ n + 1 = at .centre-bands .kept .1 .0 ∙ length-take-le (n + 1) _ h in
-    let rest = drop-past sums (a .energy .now) (n + 1) (bands * (n + 1)) room (one-row {bands = bands} (n + 1) (omega arith) (omega arith)) in (
-      front-and-rest _ (a .fine .now) (bands * n) front (rw same at (at .centre-bands .ensures .1)),
-      c .before .before .fill-energies .ensures ∙ (λ i. allEnergies bands n (front i) ++ rest i),
+    let front = uncut (a .radius) bands n (a .values .now) (done .last .0) (done .ensures .0) in
+    let same : bands * n + (n - n) ≡ bands * n = omega arith in (
+      front-and-rest (done .last .0) (a .fine .now) (bands * n) front (rw same at (done .ensures .1 .1 .0)),
+      over-sums bands n (done .last .1 .0) (a .energy .now) (done .kept .1 .0 ∙ length-take-le (n + 1) (a .energy .now) h) (one-row {bands = bands} (n + 1) (omega arith) (omega arith)) front (c .before .before .fill-energies .ensures),
     )
 
 pub fill-fine-spec : {M : Type 1} → statement M

@@ -1,10 +1,15 @@
 -- `matcher::query::centre_query` meets its contract: the energies are those of the kept parts, which stand at the front of `query`. Assumes nothing.
 use borrow.Author.Needs.{needs}
-use mathlib.Core.Path.{ap, _∙_}
-use Prim.Native.Nat.{ℕ, _+_, _-_, _*_}
+use mathlib.Core.Path.{_≡_, ap, _∙_}
+use mathlib.Core.List.{List, _++_}
+use Prim.Native.Nat.{ℕ, _+_, _-_, _*_, _≤_}
 use native.Mathlib.Omega.{arith}
-use lib.ListN.{take, length-take}
+use lib.Ieee.{Float}
+use lib.ListN.{length, take, drop, length-take}
+use Rattle.matcher_spec.specs.Centring.{centred}
 use Rattle.matcher_spec.specs.Energy.{allEnergies}
+use Rattle.matcher_spec.specs.Search.{queryValues}
+use Rattle.numbers_spec.specs.Rows.{row, rows}
 use Rattle.matcher.proofs.SearchLaws.{query-room, front-is, kept-rows}
 use Rattle.matcher.proofs.query.centre_query.Statement.{statement}
 use Rattle.matcher.proofs.query.centre_query.Tie as tie
@@ -57,6 +62,16 @@ fill-energies-requires c κs =
     let room = query-room {bands = a .bands} (a .frames) (a .frames - 2 * a .radius) (omega arith) (omega arith) in
     (simp length-take (omega arith), omega arith)
 
+-- what is kept of the centred rows stands at the front of `query`, and its energies at the front of `energy`
+fronts : (r bands frames : ℕ) (v query energy d : List Float) → bands * frames ≤ length v → length energy ≡ length d → bands * (frames - 2 * r + 1) ≤ length d
+    → take (bands * (frames - 2 * r)) query ≡ rows (λ (b : ℕ). take (frames - 2 * r) (drop r (centred r (row frames v b)))) bands
+    → energy ≡ allEnergies bands (frames - 2 * r) (take (bands * (frames - 2 * r)) query) ++ drop (bands * (frames - 2 * r + 1)) d
+    → (take (bands * (frames - 2 * r)) query ≡ queryValues r bands frames v) × (take (bands * (frames - 2 * r + 1)) energy ≡ allEnergies bands (frames - 2 * r) (queryValues r bands frames v))
+fronts r bands frames v query energy d h l k e p =
+    let n : ℕ = frames - 2 * r in
+    let front : take (bands * n) query ≡ queryValues r bands frames v = e ∙ kept-rows r bands frames v h in
+    (front, front-is (allEnergies bands n (take (bands * n) query)) d (bands * (n + 1)) p l k ∙ ap (allEnergies bands n) front)
+
 returns : tie.Need-returns
 returns c =
     let done = c .before .before in
@@ -64,14 +79,8 @@ returns c =
     let start = at .before .before .before .before .before .before in
     let a = start .args in
     let p = start .pre in
-    let bands : ℕ = a .bands in
-    let n : ℕ = a .frames - 2 * a .radius in
-    let room = query-room {bands = bands} (a .frames) n (omega arith) (omega arith) in
-    let query = at .centre-bands .ensures .0 ∙ kept-rows (a .radius) bands (a .frames) (a .values .now) (omega arith) in (
-      query,
-      front-is (allEnergies bands n (take (bands * n) (at .centre-bands .last .0))) _ (bands * (n + 1)) (done .fill-energies .ensures) (done .fill-energies .kept .0) (omega arith)
-          ∙ ap (allEnergies bands n) query,
-    )
+    let room = query-room {bands = a .bands} (a .frames) (a .frames - 2 * a .radius) (omega arith) (omega arith) in
+    fronts (a .radius) (a .bands) (a .frames) (a .values .now) (at .centre-bands .last .0) (done .fill-energies .last .0) _ (omega arith) (done .fill-energies .kept .0) (omega arith) (at .centre-bands .ensures .0) (done .fill-energies .ensures)
 
 pub centre-query-spec : {M : Type 1} → statement M
 centre-query-spec =

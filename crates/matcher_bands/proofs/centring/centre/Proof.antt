@@ -1,15 +1,15 @@
 -- `matcher_bands::centring::centre` meets its contract. The loop's invariant: so many places are filled, and what lies behind them, which is read, is as it was. Assumes nothing.
-use mathlib.Core.Path.{_≡_, refl, _∙_}
+use mathlib.Core.Path.{_≡_, refl}
 use mathlib.Core.List.{List}
 use Prim.Native.Nat.{ℕ, _+_, _-_, _≤_}
 use native.Mathlib.Nat.{add-comm}
 use native.Mathlib.Omega.{arith}
-use lib.Ieee.{Float, nan, binary32, sub}
+use lib.Ieee.{Float, nan}
 use lib.ListN.{length, getD}
 use borrow.Author.Needs.{needs}
 use Rattle.matcher_spec.specs.Centring.{centredAt}
 use Rattle.numbers_spec.proofs.RowLaws.{Filled, filled-none, filled-more, filled-length}
-use Rattle.matcher_bands.proofs.CentringLaws.{filled-ahead, centred-by}
+use Rattle.matcher_bands.proofs.CentringLaws.{filled-ahead, centred-value}
 use Rattle.matcher_bands.proofs.centring.centre.Statement.{statement}
 use Rattle.matcher_bands.proofs.centring.centre.Tie as tie
 
@@ -32,7 +32,7 @@ loop-again c =
     let i = at .loop .i in
     let f = centredFrom (a .radius) v (a .from) in
     let ahead : getD (at .loop .row) (a .from + i) nan ≡ getD v (a .from + i) nan = rw (add-comm (a .from) i) (filled-ahead f v i (a .from) nan (at .loop .inv .2)) in
-    let value = (λ k. sub binary32 (ahead k) (c .mean-around .ensures k)) ∙ centred-by v (a .sums .now) (a .radius) (a .from + i) (omega arith) (start .pre .1 .1 .1 .1) in
+    let value = centred-value v (a .sums .now) (a .radius) (a .from + i) (omega arith) (start .pre .1 .1 .1 .1) ahead (c .mean-around .ensures) in
     let more = filled-more f v i (at .loop .inv .2) value (omega arith) in
     (omega arith, filled-length f v (i + 1) more (omega arith), more)
 

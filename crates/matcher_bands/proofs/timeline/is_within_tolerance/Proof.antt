@@ -1,4 +1,4 @@
--- `matcher_bands::timeline::is_near` meets its contract. Assumes nothing.
+-- `matcher_bands::timeline::is_within_tolerance` meets its contract. Assumes nothing.
 use borrow.Author.Needs.{needs}
 use Rattle.matcher_bands.proofs.timeline.is_within_tolerance.Statement.{statement}
 use Rattle.matcher_bands.proofs.timeline.is_within_tolerance.Tie as tie

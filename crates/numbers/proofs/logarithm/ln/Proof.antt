@@ -3,15 +3,8 @@ use lib.Ieee.{lt, ofBits, div}
 use borrow.Author.Needs.{needs}
 use Rattle.numbers_spec.specs.Logarithm.{sqrt2, mantissa, exponent, logOf}
 use Rattle.numbers_spec.proofs.Chosen.{chosen}
-use Rattle.numbers_spec.proofs.Rooted.{le-no-nan}
 use Rattle.numbers.proofs.logarithm.ln.Statement.{statement}
 use Rattle.numbers.proofs.logarithm.ln.Tie as tie
-
-mantissa-requires : tie.Need-mantissa-requires
-mantissa-requires c κs = le-no-nan _ _ (c .before .if1 .taken)
-
-exponent-requires : tie.Need-exponent-requires
-exponent-requires c κs = le-no-nan _ _ (c .before .before .before .if1 .taken)
 
 returns : tie.Need-returns
 unfolding ofBits div logOf
@@ -31,9 +24,9 @@ pub ln-spec : {M : Type 1} → statement M
 ln-spec =
     tie.close
     (tie.spec
-    mantissa-requires
     (λ c κs. search needs)
-    exponent-requires
+    (λ c κs. search needs)
+    (λ c κs. search needs)
     (λ c κs. search needs)
     (λ c κs. search needs)
     returns

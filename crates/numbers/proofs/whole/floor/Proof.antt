@@ -3,10 +3,10 @@ use mathlib.Core.Path.{sym, ap, _∙_, subst}
 use mathlib.Core.Bool.{Bool, cond}
 use Prim.Native.Nat.{ℕ, _-_, _/_, _^_, _≤_}
 use lib.Dec.{T}
-use lib.Ieee.{binary64, round, fits}
+use lib.Ieee.{binary64, fits}
 use borrow.Author.Needs.{needs}
 use Rattle.numbers_spec.specs.Whole.{upward}
-use Rattle.numbers.proofs.whole.Fractions.{below-small, below-large, below-other, cut-le, upward-le}
+use Rattle.numbers.proofs.whole.Fractions.{below-rounds, rounds-small, rounds-large, cut-le, upward-le}
 use Rattle.numbers.proofs.whole.floor.Statement.{statement}
 use Rattle.numbers.proofs.whole.floor.Tie as tie
 
@@ -25,9 +25,9 @@ returns : tie.Need-returns
 returns c =
     let b = c .before .before .before .before .before .before in
     let p = b .split in
-    c .signed .ensures
-    ∙ ap (λ (k : ℕ). round binary64 (p .result .minus) k 1) (c .before .cut-up .ensures ∙ sym (ap (λ (t : Bool). cond t (upward (p .result .sig) (2 ^ (1074 - p .result .exp))) (p .result .sig / 2 ^ (1074 - p .result .exp))) (c .before .before .before .if3 .taken)))
-    ∙ below-small (b .before .before .before .args .x) (p .result .minus) (p .result .sig) (p .result .exp) (p .ensures .value) (c .before .before .before .before .if2 .taken)
+    let C = 2 ^ (1074 - p .result .exp) in
+    rounds-small below-rounds (b .before .before .before .args .x) (p .result .minus) (p .result .sig) (p .result .exp) (p .ensures) (c .before .before .before .before .if2 .taken) (c .signed .ensures)
+    (c .before .cut-up .ensures ∙ sym (ap (λ (t : Bool). cond t (upward (p .result .sig) C) (p .result .sig / C)) (c .before .before .before .if3 .taken)))
 
 signed-requires-2 : tie.Need-signed-requires-2
 signed-requires-2 c κs =
@@ -38,21 +38,18 @@ returns-2 : tie.Need-returns-2
 returns-2 c =
     let b = c .before .before .before .before .before .before in
     let p = b .split in
-    c .signed2 .ensures
-    ∙ ap (λ (k : ℕ). round binary64 (p .result .minus) k 1) (c .before .cut .ensures ∙ sym (ap (λ (t : Bool). cond t (upward (p .result .sig) (2 ^ (1074 - p .result .exp))) (p .result .sig / 2 ^ (1074 - p .result .exp))) (c .before .before .before .if3 .left)))
-    ∙ below-small (b .before .before .before .args .x) (p .result .minus) (p .result .sig) (p .result .exp) (p .ensures .value) (c .before .before .before .before .if2 .taken)
+    let C = 2 ^ (1074 - p .result .exp) in
+    rounds-small below-rounds (b .before .before .before .args .x) (p .result .minus) (p .result .sig) (p .result .exp) (p .ensures) (c .before .before .before .before .if2 .taken) (c .signed2 .ensures)
+    (c .before .cut .ensures ∙ sym (ap (λ (t : Bool). cond t (upward (p .result .sig) C) (p .result .sig / C)) (c .before .before .before .if3 .left)))
 
 returns-3 : tie.Need-returns-3
 returns-3 c =
-    let b = c .before .before in
-    let p = b .split in
-    let s = b .before .before .before in
-    below-large (p .result .minus) (p .result .sig) (p .result .exp) (c .if2 .left) (s .args .x) (held s) (p .ensures)
+    let p = c .before .before .split in
+    let s = c .before .before .before .before .before in
+    rounds-large below-rounds (s .args .x) (p .result .minus) (p .result .sig) (p .result .exp) (p .ensures) (c .if2 .left) (held s)
 
 returns-4 : tie.Need-returns-4
-returns-4 c =
-    let b = c .before in
-    below-other (b .before .args .x) (sym (b .is-finite .ensures) ∙ c .if1 .left)
+returns-4 c = below-rounds .other (c .before .before .args .x) (sym (c .before .is-finite .ensures) ∙ c .if1 .left)
 
 pub floor-spec : {M : Type 1} → statement M
 floor-spec =

@@ -1,11 +1,11 @@
 -- `numbers::whole::round` meets its contract. Assumes nothing.
-use mathlib.Core.Path.{sym, ap, _∙_, subst}
+use mathlib.Core.Path.{sym, _∙_, subst}
 use Prim.Native.Nat.{ℕ, _-_, _^_, _≤_}
 use lib.Dec.{T}
 use lib.Pow.{pow-pos}
-use lib.Ieee.{binary64, round, fits}
+use lib.Ieee.{binary64, fits}
 use borrow.Author.Needs.{needs}
-use Rattle.numbers.proofs.whole.Fractions.{nearest-small, nearest-large, nearest-other, halfUp-le}
+use Rattle.numbers.proofs.whole.Fractions.{nearest-rounds, rounds-small, rounds-large, halfUp-le}
 use Rattle.numbers.proofs.whole.round.Statement.{statement}
 use Rattle.numbers.proofs.whole.round.Tie as tie
 
@@ -25,21 +25,16 @@ returns : tie.Need-returns
 returns c =
     let b = c .before .before .before .before .before in
     let p = b .split in
-    c .signed .ensures
-    ∙ ap (λ (k : ℕ). round binary64 (p .result .minus) k 1) (c .before .half-up .ensures)
-    ∙ nearest-small (b .before .before .before .args .x) (p .result .minus) (p .result .sig) (p .result .exp) (p .ensures .value) (c .before .before .before .if2 .taken)
+    rounds-small nearest-rounds (b .before .before .before .args .x) (p .result .minus) (p .result .sig) (p .result .exp) (p .ensures) (c .before .before .before .if2 .taken) (c .signed .ensures) (c .before .half-up .ensures)
 
 returns-2 : tie.Need-returns-2
 returns-2 c =
-    let b = c .before .before in
-    let p = b .split in
-    let s = b .before .before .before in
-    nearest-large (p .result .minus) (p .result .sig) (p .result .exp) (c .if2 .left) (s .args .x) (held s) (p .ensures)
+    let p = c .before .before .split in
+    let s = c .before .before .before .before .before in
+    rounds-large nearest-rounds (s .args .x) (p .result .minus) (p .result .sig) (p .result .exp) (p .ensures) (c .if2 .left) (held s)
 
 returns-3 : tie.Need-returns-3
-returns-3 c =
-    let b = c .before in
-    nearest-other (b .before .args .x) (sym (b .is-finite .ensures) ∙ c .if1 .left)
+returns-3 c = nearest-rounds .other (c .before .before .args .x) (sym (c .before .is-finite .ensures) ∙ c .if1 .left)
 
 pub round-spec : {M : Type 1} → statement M
 round-spec =

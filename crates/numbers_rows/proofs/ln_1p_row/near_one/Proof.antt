@@ -2,13 +2,8 @@
 use lib.Ieee.{lt, ofBits}
 use borrow.Author.Needs.{needs}
 use Rattle.numbers_rows.specs.Logs.{nearOne}
-use Rattle.numbers_rows.proofs.LogPasses.{one-more-of}
 use Rattle.numbers_rows.proofs.ln_1p_row.near_one.Statement.{statement}
 use Rattle.numbers_rows.proofs.ln_1p_row.near_one.Tie as tie
-
-mantissa-requires : tie.Need-mantissa-requires
-unfolding ofBits
-mantissa-requires c κs = one-more-of _ _ (c .wide .ensures) (c .before .pre)
 
 returns : tie.Need-returns
 unfolding nearOne lt ofBits
@@ -19,6 +14,6 @@ near-one-spec =
     tie.close
     (tie.spec
     (λ c κs. search needs)
-    mantissa-requires
+    (λ c κs. search needs)
     (λ c κs. search needs)
     returns)

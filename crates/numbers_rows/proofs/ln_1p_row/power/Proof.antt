@@ -2,17 +2,8 @@
 use lib.Ieee.{le, neg, ofBits}
 use borrow.Author.Needs.{needs}
 use Rattle.numbers_rows.specs.Logs.{power}
-use Rattle.numbers_rows.proofs.LogPasses.{one-more-of}
 use Rattle.numbers_rows.proofs.ln_1p_row.power.Statement.{statement}
 use Rattle.numbers_rows.proofs.ln_1p_row.power.Tie as tie
-
-exponent-requires : tie.Need-exponent-requires
-unfolding ofBits
-exponent-requires c κs = one-more-of _ _ (c .wide .ensures) (c .before .pre)
-
-mantissa-requires : tie.Need-mantissa-requires
-unfolding ofBits
-mantissa-requires c κs = one-more-of _ _ (c .before .wide .ensures) (c .before .before .pre)
 
 returns : tie.Need-returns
 unfolding power le ofBits neg
@@ -23,8 +14,8 @@ power-spec =
     tie.close
     (tie.spec
     (λ c κs. search needs)
-    exponent-requires
-    mantissa-requires
+    (λ c κs. search needs)
+    (λ c κs. search needs)
     (λ c κs. search needs)
     (λ c κs. search needs)
     returns)

@@ -1,5 +1,5 @@
 -- `numbers_rows::ln_1p_row::terms_row` meets its contract. The loop's invariant: so many places are filled. Assumes nothing.
-use mathlib.Core.Path.{_≡_, refl, _∙_}
+use mathlib.Core.Path.{_≡_, refl}
 use Prim.Native.Nat.{ℕ, _-_, _≤_, _<_}
 use native.Mathlib.Omega.{arith}
 use borrow.Author.Needs.{needs}
@@ -22,8 +22,13 @@ loop-holds c = (omega arith, refl, (λ k l. none l))
 
 loop-again : tie.Need-loop-again Inv-loop μ-loop
 loop-again c =
-    let now = c .before .before .before .before .before .loop in
-    (omega arith, simp length-set (now .inv .1), holds-more _ (now .k) (now .out) (now .inv .2) (c .four-terms .ensures ∙ four-are _ _ _ (c .before .before .before .before .before .before .before .before .before .term .ensures) (c .before .before .before .before .before .before .before .before .term2 .ensures) (c .before .before .before .before .before .before .before .term3 .ensures) (c .before .before .before .before .before .before .term4 .ensures)) (omega arith))
+    let at = c .before .before .before .before .before in
+    let start = at .before .before .before .before in
+    let a = start .before .before .before .before .args in
+    let k = at .loop .k in
+    let z = getD (a .ratios .now) k nan ⊗ getD (a .ratios .now) k nan in
+    let four = four-are (a .i) z (getD (a .sums .now) k nan) (start .term .ensures) (at .before .before .before .term2 .ensures) (at .before .before .term3 .ensures) (at .before .term4 .ensures) (c .four-terms .ensures) in
+    (omega arith, simp length-set (at .loop .inv .1), holds-more _ k (at .loop .out) (at .loop .inv .2) four (omega arith))
 
 returns : tie.Need-returns Inv-loop μ-loop
 returns c k b = c .before .loop .inv .2 k (omega arith)

@@ -1,0 +1,2 @@
+-- What the proofs of `mantissa` and `exponent` share.
+pub mod Patterns
