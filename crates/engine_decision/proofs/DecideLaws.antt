@@ -17,7 +17,7 @@ use Rattle.engine_spec.specs.Windows.{Window, evidence, endpointOf}
 use Rattle.engine_spec.specs.Readiness.{readiness, isNone}
 use Rattle.engine_spec.specs.Locking as locking
 use Rattle.engine_spec.specs.Locking.{searched}
-use Rattle.engine_spec.specs.Publishing.{decide, ready, unready, ambiguous}
+use Rattle.engine_spec.specs.Publishing.{Decision, decide, ready, unready, ambiguous}
 use Rattle.engine_spec.specs.declared.types.Settings.{Settings}
 use Rattle.engine_spec.specs.declared.types.Lock.{Lock}
 use Rattle.engine_spec.specs.declared.types.WithholdReason.{WithholdReason}
@@ -38,19 +38,19 @@ unfolding readiness
 ready-frames s c w e h = some-of (s .«reference_frames») (there (eqb (s .«reference_frames») 0) _ (sym (ap isNone e) ∙ h))
 
 module _ (s : Settings) (m : Matcher) (w : Window) (k : locking.Reached) (l : Lock) {r : WithholdReason} (e : r ≡ readiness s (k .confirmed) w) where
-  pub decides-unready : isNone r ≡ false → unready s k l r ≡ decide s m w k l
+  pub decides-unready : {d : Decision} → d ≡ unready s k l r → isNone r ≡ false → d ≡ decide s m w k l
   unfolding decide
-  decides-unready h =
+  decides-unready g h =
       let q : isNone (readiness s (k .confirmed) w) ≡ false = sym (ap isNone e) ∙ h in
       let p : unready s k l (readiness s (k .confirmed) w) ≡ decide s m w k l = rw q refl in
-      ap (λ (x : WithholdReason). unready s k l x) e ∙ p
+      g ∙ ap (λ (x : WithholdReason). unready s k l x) e ∙ p
 
-  pub decides-ready : {x : locking.Searched} → isNone r ≡ true → x ≡ searched m (s .«hop_ms») w k l → ready (s .«hop_ms») (endingAt (endpointOf w)) x ≡ decide s m w k l
+  pub decides-ready : {x : locking.Searched} {d : Decision} → d ≡ ready (s .«hop_ms») (endingAt (endpointOf w)) x → isNone r ≡ true → x ≡ searched m (s .«hop_ms») w k l → d ≡ decide s m w k l
   unfolding decide evidence
-  decides-ready h f =
+  decides-ready g h f =
       let q : isNone (readiness s (k .confirmed) w) ≡ true = sym (ap isNone e) ∙ h in
       let p : ready (s .«hop_ms») w (searched m (s .«hop_ms») w k l) ≡ decide s m w k l = rw q refl in
-      ap (λ (y : locking.Searched). ready (s .«hop_ms») w y) f ∙ p
+      g ∙ ap (λ (y : locking.Searched). ready (s .«hop_ms») w y) f ∙ p
 
 pub ambiguous-some : (n : ℕ) (l : List Candidate) → (n ≡ 0 → ⊥) → length l ≡ 8 → lt (marginOf (take n l)) passingMargin ≡ ambiguous (take n l)
 ambiguous-some zero l h e = absurd (h refl)

@@ -16,7 +16,7 @@ returns c =
     let s = a .settings in
     let x = lent (a .fine .now) (a .coarse .now) (a .fine-energy .now) (a .coarse-energy .now) in
     let w = window (a .bands) (a .times .now) (a .energies .now) (a .values .now) in
-    (c .unready .ensures .0 ∙ decides-unready s (matcherIn s x) w (reachedIn (a .reached)) (a .lock) (c .before .before .before .readiness .ensures) (sym (c .before .before .is-none .ensures) ∙ not-true _ (c .before .if1 .taken)), c .unready .ensures .1)
+    (decides-unready s (matcherIn s x) w (reachedIn (a .reached)) (a .lock) (c .before .before .before .readiness .ensures) (c .unready .ensures .0) (sym (c .before .before .is-none .ensures) ∙ not-true _ (c .before .if1 .taken)), c .unready .ensures .1)
 
 searched-requires : tie.Need-searched-requires
 searched-requires c κs =
@@ -34,7 +34,7 @@ returns-2 c =
     let s = a .settings in
     let x = lent (a .fine .now) (a .coarse .now) (a .fine-energy .now) (a .coarse-energy .now) in
     let w = window (a .bands) (a .times .now) (a .energies .now) (a .values .now) in (
-      c .ready .ensures .0 ∙ decides-ready s (matcherIn s x) w (reachedIn (a .reached)) (a .lock) (c .before .before .before .before .before .before .before .before .before .before .readiness .ensures) (sym (c .before .before .before .before .before .before .before .before .before .is-none .ensures) ∙ not-false _ (c .before .before .before .before .before .before .before .before .if1 .left)) (c .before .before .before .before .before .searched .ensures .0),
+      decides-ready s (matcherIn s x) w (reachedIn (a .reached)) (a .lock) (c .before .before .before .before .before .before .before .before .before .before .readiness .ensures) (c .ready .ensures .0) (sym (c .before .before .before .before .before .before .before .before .before .is-none .ensures) ∙ not-false _ (c .before .before .before .before .before .before .before .before .if1 .left)) (c .before .before .before .before .before .searched .ensures .0),
       rw (c .ready .ensures .1) (c .before .before .before .before .before .searched .ensures .1),
     )
 
