@@ -1,5 +1,5 @@
 -- The coast that is shown, 0 where evidence times don't differ, is their difference, also in the sign of a zero. A difference is -0 only of -0 and +0; no evidence time is -0 after one that is +0, as the endpoint of an answer computed anew lies 90 past the one before. Assumes nothing.
-use mathlib.Core.Bool.{Bool, true, false, not}
+use mathlib.Core.Bool.{true, false, not}
 use mathlib.Core.Logic.{inl, inr}
 use mathlib.Core.Path.{_≡_, refl, sym, subst}
 use lib.Dec.{T}

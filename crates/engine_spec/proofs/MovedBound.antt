@@ -1,18 +1,13 @@
 -- A track that is supported stays within 2^42, wherever it was: what was found lies within 2^41, the track at most 80 from it, and the track moves by at most twice that. Assumes nothing.
-use mathlib.Core.Path.{refl, sym}
 use mathlib.Core.Logic.{inl, inr}
-use mathlib.Core.Bool.{Bool, true, false}
-use Prim.Native.Nat.{ℕ, _*_}
-use native.Mathlib.Nat.{mul-pos}
-use native.Mathlib.Omega.{arith}
-use lib.Dec.{T, lit<}
-use lib.IntN.{ℤ, pos}
+use mathlib.Core.Bool.{false}
+use lib.Dec.{T}
+use lib.IntN.{pos}
 use lib.Count.{trailingZeros}
-use lib.Ieee.{Float, nan, inf, fin, binary64, up, down, unlike, le, lt, eq, neg, add, sub, mul, div, sum, ofBits, ofFields, odd, round, units, size, span, climb, isNan}
-use lib.Ieee.Fits.{down-pos}
+use lib.Ieee.{Float, nan, inf, fin, binary64, le, lt, eq, neg, add, sub, mul, sum, ofBits, ofFields, odd, round, units, size, span, climb, isNan}
 use lib.Ieee.Positive.{positive}
 use lib.Ieee.Scale.{finite}
-use Rattle.numbers_spec.specs.Arithmetic.{_⊕_, _⊖_, _⊗_, _⊘_, zero⁺, one, two, absolute, atLeast, magnitude}
+use Rattle.numbers_spec.specs.Arithmetic.{_⊕_, _⊖_, _⊗_, _⊘_, zero⁺, one, absolute, atLeast, magnitude}
 use Rattle.numbers_spec.specs.Exponential.{expOf}
 use Rattle.numbers_spec.proofs.Value.{finite-no-nan}
 use Rattle.numbers_spec.specs.Values.{Number, AtMost, NotNegative, Between}

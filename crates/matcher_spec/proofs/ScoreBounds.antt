@@ -10,8 +10,8 @@ use lib.Dec.{T, lit<, lit≤}
 use lib.IntN.{negsuc}
 use lib.ListN.{length, getD, take, drop}
 use lib.Count.{trailingZeros}
-use lib.Ieee.{Float, nan, inf, fin, binary32, binary64, mul, lt, eq, le, fits, ofBits, ofFields, ofInt, round, units, size, span, climb, odd}
-use lib.Ieee.Fits.{down-pos, add-fits, mul-fits}
+use lib.Ieee.{Float, nan, fin, binary32, binary64, mul, lt, eq, le, fits, ofBits, ofFields, ofInt, round, units, size, span, climb, odd}
+use lib.Ieee.Fits.{add-fits, mul-fits}
 use lib.Ieee.Scale.{finite}
 use Rattle.numbers_spec.specs.Arithmetic.{_⊖_, _⊗_, _⊘_, one, real, atLeast}
 use Rattle.numbers_spec.specs.Logarithm.{smallestNormal}

@@ -8,7 +8,7 @@ use mathlib.Core.Bool.{true, false, true≢false}
 use lib.Dec.{T, lit<}
 use borrow.Author.Tests.{le-ltb, ne-eqb}
 use lib.IntN.{ℤ}
-use lib.Ieee.{Float, nan, inf, fin, Format, binary64, up, down, round, sum, add, sub, mul, div, neg, ofInt, fits, le}
+use lib.Ieee.{Float, nan, inf, fin, binary64, up, down, round, sum, add, sub, mul, div, neg, ofInt, le}
 use lib.Ieee.Back.{round-whole}
 use lib.Ieee.Exact.{HasValue}
 use lib.Ieee.Fits.{down-pos}
@@ -17,7 +17,7 @@ use lib.Ieee.Positive.{positive, positive-of-value}
 use lib.Ieee.Scale.{finite, round-same}
 use Rattle.numbers_spec.specs.Arithmetic.{_⊕_, _⊖_, _⊗_, _⊘_, zero⁺, real}
 use Rattle.numbers_spec.proofs.Value.{finite-no-nan}
-use Rattle.numbers_spec.specs.Values.{Den, NotNegative, Between}
+use Rattle.numbers_spec.specs.Values.{Between}
 use Rattle.numbers_spec.proofs.Order.{le-self, le-total, le-transitive, between-finite}
 use Rattle.numbers_spec.proofs.Sums.{add-mono, add-not-negative, sub-mono, sub-anti, sub-not-negative}
 use Rattle.numbers_spec.proofs.Products.{mul-mono, mul-not-negative, div-mono, div-not-negative}

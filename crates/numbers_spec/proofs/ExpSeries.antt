@@ -9,7 +9,6 @@ use lib.Count.{trailingZeros}
 use lib.Ieee.{Float, fin, binary64, odd, round, size, units, span, climb, neg, sum, add, mul, div, lt, eq, le, ofInt}
 use lib.Ieee.Order.{round-mono}
 use lib.Ieee.Positive.{positive, between}
-use lib.Ieee.Scale.{finite}
 use Rattle.numbers_spec.specs.Arithmetic.{_⊕_, _⊗_, _⊘_, zero⁺, one, magnitude}
 use Rattle.numbers_spec.specs.Exponential.{expSeries}
 use Rattle.numbers_spec.specs.Values.{AtMost, Between}

@@ -15,7 +15,7 @@ use lib.Ieee.Positive.{positive, values-of-le}
 use lib.Ieee.Back.{round-whole}
 use lib.Ieee.Digits.{back, minus-val}
 use lib.Ieee.Fits.{down-pos}
-use lib.Ieee.Scale.{finite, round-same}
+use lib.Ieee.Scale.{round-same}
 use Rattle.numbers_spec.specs.Arithmetic.{_⊖_, zero⁺, one, two}
 use Rattle.numbers_spec.specs.Exponential.{bias}
 use Rattle.numbers_spec.specs.Logarithm.{smallestNormal, mantissa, exponent}

@@ -123,7 +123,7 @@ pub all-more : (p : ℕ → Bool) (n : ℕ) → allTo p n ≡ true → p n ≡ t
 unfolding allTo
 all-more p n h q = rw add-one (rw (h, q))
 
--- the same of a test that goes on where one failed
+-- one more test, in a loop that goes on where one failed
 pub all-next : (p : ℕ → Bool) (n : ℕ) {b c : Bool} → b ≡ allTo p n → c ≡ p n → b && c ≡ allTo p (n + 1)
 unfolding allTo
 all-next p n h q = rw add-one (rw (h, q) refl)

@@ -16,7 +16,7 @@ use lib.Ieee.Positive.{first-pos}
 use lib.Ieee.Scale.{finite}
 use Rattle.numbers_spec.specs.Arithmetic.{zero⁺, one, magnitude}
 use Rattle.numbers_spec.proofs.Sign.{neg-round}
-use Rattle.numbers_spec.specs.Values.{sided, size, Den, AtMost, Within, Holds, nothing, each, running}
+use Rattle.numbers_spec.specs.Values.{sided, size, Den, Within, Holds, nothing, each, running}
 use Rattle.numbers_spec.specs.FloatLaws.{AddWithin, SubWithin, MulWithin, DivWithin, LeGivesSize, OneGivesSize, RoundWithin, WithinGivesAtMost, AtMostGivesWithin, RunningWithin, SumWithin}
 use Rattle.numbers_spec.proofs.Order.{Pos, Neg, den-pos, tested→ordered, below→le, le→below, cross}
 use Rattle.numbers_spec.proofs.Rounding.{round-sided, is-le}

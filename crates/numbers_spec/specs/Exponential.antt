@@ -42,7 +42,7 @@ unfoldable pub expSeries : ℕ → Float → Float → Float
 expSeries zero r p = p
 expSeries (suc n) r p = expSeries n r (one ⊕ (r ⊗ p) ⊘ ofInt binary64 (pos (suc n)))
 
--- 2 ^ k for a whole k from -1022 to 1023, by the exponent's field k + 1023; NaN for others. That it is exactly 2 ^ k is a theorem: `PowerOfTwo` of ExpLaws.antt.
+-- 2 ^ k for a whole k from -1022 to 1023, by the exponent's field k + 1023; NaN for others. That it is exactly 2 ^ k is a theorem: `PowerOfTwo` of ExpLaws.
 unfoldable pub twoTo : Float → Float
 twoTo k = let field = k ⊕ bias in cond (le one field && le field fieldMost) (ofBits binary64 (toUnsigned 64 field * 2 ^ 52)) nan
 

@@ -149,7 +149,7 @@ MulMonotone = (f : Format) (x x' y y' : Float) → T (finite x) → T (finite x'
 abbrev pub MulMonotoneBy : Type 0
 MulMonotoneBy = (f : Format) (x y k : Float) → T (finite x) → T (finite y) → T (finite k) → NotNegative k → T (le x y) → T (le (mul f x k) (mul f y k))
 
--- The same for infinite x and y too, where k is finite and above 0; and x × k is then no NaN where x is none.
+-- x × k grows with x, an infinite one too, for a finite k above 0; and x × k is then no NaN where x is none.
 abbrev pub MulMonotoneByPositive : Type 0
 MulMonotoneByPositive = (f : Format) (x y k : Float) → T (positive k) → T (le x y) → T (le (mul f x k) (mul f y k))
 

@@ -38,7 +38,7 @@ logTwice s = two ⊗ (s ⊗ logSeries 12 (s ⊗ s) zero⁺)
 abbrev pub logAt : Float → Float → Float
 logAt m e = e ⊗ hi ⊕ (e ⊗ lo ⊕ logTwice ((m ⊖ one) ⊘ (m ⊕ one)))
 
--- A positive normal v is m × 2^e with 1 ≤ m < 2: m has v's digits, the low 52 bits, under 1023, the exponent's field of 1; e is v's field less 1023. That v = m × 2^e is a theorem: `Split` of LogLaws.antt.
+-- A positive normal v is m × 2^e with 1 ≤ m < 2: m has v's digits, the low 52 bits, under 1023, the exponent's field of 1; e is v's field less 1023. That v = m × 2^e is a theorem: `Split` of LogLaws. A NaN, which L does not take, gives 1.5 and 1024.
 abbrev pub mantissa : Float → Float
 mantissa v = ofBits binary64 (toBits binary64 v % 2 ^ 52 + 1023 * 2 ^ 52)
 

@@ -35,7 +35,7 @@ pub record FiniteBelow (f : Format) (s : Bool) (a c : ℕ) (r : Float) : Type 0 
 abbrev pub RoundOverflow : Type 0
 RoundOverflow = (f : Format) (s : Bool) (a c : ℕ) → 0 < c → FiniteBelow f s a c (round f s a c)
 
--- The same of `x as f32`, for every finite x: ±m * 2 ^ e, which is ±(m * up e) / down e.
+-- `x as f32` is the nearest f32, and overflows where rounding does, for every finite x: ±m * 2 ^ e, which is ±(m * up e) / down e.
 abbrev pub NarrowNearest : Type 0
 NarrowNearest = (s : Bool) (m : ℕ) (e : ℤ) → T (finite (nearestF32 (fin s m e))) → NearestTo binary32 s (m * up e) (down e) (nearestF32 (fin s m e))
 

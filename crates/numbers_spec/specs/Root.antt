@@ -20,7 +20,7 @@ pub record NearRoot (n c : ℕ) : Type 0 where
   pub below : n ≤ c * c + c
 
 -- The root of n units of 2 ^ -1074 is √(n * 2 ^ 1074) units. With k such that √(n * 2 ^ 1074 / 4 ^ k) has 53 digits before the point, the nearest f64 is the nearest whole number to that, times 2 ^ k.
--- That no f64 is nearer is a theorem of its own, which does not speak of this method: `NearestRoot` of RootLaws.antt.
+-- That no f64 is nearer is a theorem of its own, which does not speak of this method: `NearestRoot` of RootLaws.
 unfoldable pub rootUnits : ℕ → Float
 unfolding nearRoot
 rootUnits n = let k = (size n + 1075) / 2 - 53 in units binary64 false (nearRoot (n * 2 ^ 1074 / (2 ^ k * 2 ^ k))) k

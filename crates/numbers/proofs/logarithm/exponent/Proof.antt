@@ -1,6 +1,6 @@
 -- `numbers::logarithm::exponent` meets its contract. Assumes nothing.
 use mathlib.Core.Path.{sym, ap, subst}
-use Prim.Native.Nat.{ℕ, _/_, _^_, _≤_, _<_}
+use Prim.Native.Nat.{ℕ, _/_, _≤_, _<_}
 use native.Mathlib.Omega.{arith}
 use lib.Dec.{T, le→leb}
 use lib.IntN.{pos}
