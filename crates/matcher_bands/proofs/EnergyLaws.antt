@@ -3,13 +3,13 @@ use mathlib.Core.Path.{_≡_, refl, sym, ap, _∙_}
 use Prim.Native.Nat.{ℕ, _+_, _-_, _*_, _/_, _≤_, _<_}
 use native.Mathlib.Nat.{zero-mul, add-zero, add-assoc}
 use native.Mathlib.Omega.{arith}
-use mathlib.Core.List.{List, _++_, append-assoc}
+use mathlib.Core.List.{List, [], _++_, append-assoc}
 use lib.ListN.{length, getD, take, drop, length-take, length-drop, take-append-drop}
-use lib.Seq.{take-append-le, drop-append-le, getD-take, getD-drop}
+use lib.Seq.{take-at, take-append-le, drop-append-le, getD-take, getD-drop}
 use lib.Ieee.{Float, nan}
 use borrow.Rule.Slice.PartMut.{putMid}
 use Rattle.numbers_spec.specs.Rows.{rows, row}
-use Rattle.matcher_spec.specs.Energy.{energies, average, averages}
+use Rattle.matcher_spec.specs.Energy.{bandsOf, wholeEnergies, energies, average, averages}
 use Rattle.numbers_spec.proofs.RowLaws.{length-tabulate, row-within, next-row, Rowed, rowed-none, rowed-more, rowed-length}
 
 -- a part within the list has its length
@@ -57,6 +57,11 @@ module _ (f : List Float → List Float) (n size bands : ℕ) (v d : List Float)
   banded-all b h p =
       let e : b ≡ bands = let k = p .passed in omega arith in
       rw e at (p .front .1)
+
+-- ---- the whole energies at the front of what `whole_energies` gives
+pub whole-front : (bands n : ℕ) (e rest : List Float) {r : List Float} → r ≡ wholeEnergies bands (bandsOf n [] e) ++ rest → take bands r ≡ wholeEnergies bands (bandsOf n [] e)
+unfolding wholeEnergies
+whole-front bands n e rest p = ap (take bands) p ∙ take-at _ rest bands (length-tabulate _ bands)
 
 -- ---- rows written from a place on, in the list that they are made of
 -- what stands before the place is as it was

@@ -1,10 +1,11 @@
 // Energies of bands, and bands averaged by fours.
-ghost use Prim.Native.Nat.{_+_, _*_, _/_, _<_, _≤_};
+ghost use Prim.Native.Nat.{ℕ, _+_, _-_, _*_, _/_, _<_, _≤_};
 ghost use lib.ListN.{drop, length, take};
 ghost use mathlib.Core.List.{[], _++_};
 ghost use mathlib.Core.Path.{_≡_};
 ghost use Rattle.matcher_spec.specs.Energy.{allAverages, allEnergies, average, averages, bandsOf, energies, wholeEnergies};
-ghost use Rattle.numbers_spec.specs.Rows.{row};
+ghost use Rattle.numbers_spec.specs.Arithmetic.{zero⁺};
+ghost use Rattle.numbers_spec.specs.Rows.{row, tabulate};
 ghost use Rattle.matcher_spec.specs.Limits.{bandsMost};
 use matcher_spec::limits::BANDS_MOST;
 use numbers::float::widen;
@@ -45,7 +46,7 @@ pub fn fill_energies(energy: &mut [f64], values: &[f32], bands: usize, n: usize)
 // Each band's whole energy; 0.0 past the last band.
 pub fn whole_energies(energy: &[f64], bands: usize, n: usize) -> [f64; BANDS_MOST]
     requires { ⌜ bands ≤ bandsMost ⌝ ∗ ⌜ bands * (n + 1) ≤ length (now energy) ⌝ }
-    ensures { λ r. ⌜ take bands r ≡ wholeEnergies bands (bandsOf n [] (now (energy .entry))) ⌝ }
+    ensures { λ r. ⌜ r ≡ wholeEnergies bands (bandsOf n [] (now (energy .entry))) ++ tabulate (λ (b : ℕ). zero⁺) (bandsMost - bands) ⌝ }
 {
     let mut whole = [0.0f64; BANDS_MOST];
     let mut b = 0usize;

@@ -9,6 +9,7 @@ use lib.Ieee.{Float}
 use lib.ListN.{length, take, drop, length-take, length-drop}
 use Rattle.matcher_spec.specs.Energy.{Bands, bandsOf, wholeEnergies}
 use Rattle.matcher_spec.specs.Scores.{correlations}
+use Rattle.matcher_bands.proofs.EnergyLaws.{whole-front}
 use Rattle.matcher.proofs.SearchLaws.{put-is}
 use Rattle.matcher.proofs.candidate.score_places.Statement.{statement}
 use Rattle.matcher.proofs.candidate.score_places.Tie as tie
@@ -42,7 +43,7 @@ returns c =
     let same : a .from + a .bands * (a .n + 1) - a .from ≡ a .bands * (a .n + 1) = omega arith in
     let whole = done .before .before .before .whole-energies in (
       _∙_ {b = scores} (put-is (a .at) (a .at + a .places - a .at) (a .places) w scores (omega arith) size)
-          (scores-are (a .bands) reference (a .n) (a .query .now) (a .low) (a .places) (a .bands * (a .n + 1)) (a .from) (length (take (a .at + a .places - a .at) (drop (a .at) w))) w (take (a .bands) (whole .result)) scores (done .correlations .ensures) lent (whole .ensures) same),
+          (scores-are (a .bands) reference (a .n) (a .query .now) (a .low) (a .places) (a .bands * (a .n + 1)) (a .from) (length (take (a .at + a .places - a .at) (drop (a .at) w))) w (take (a .bands) (whole .result)) scores (done .correlations .ensures) lent (whole-front (a .bands) (a .n) _ _ (whole .ensures)) same),
       take-put (a .at) (a .at + a .places - a .at) w scores (omega arith),
     )
 
