@@ -7,7 +7,7 @@ use lib.ListN.{drop, length}
 use lib.Ieee.{Float, le}
 use Rattle.numbers_spec.specs.Arithmetic.{one}
 use Rattle.matcher_spec.specs.Candidates.{resultOf}
-use Rattle.matcher_spec.specs.Index.{acceptsReference, filled, lentBands, lentMatcher, matcherOf}
+use Rattle.matcher_spec.specs.Index.{acceptsReference, filled, lent, lentBands, lentMatcher, matcherOf}
 use Rattle.matcher_spec.specs.Search.{localSearch, recentMs, wholeSearch}
 use Rattle.matcher_spec.specs.Features.{Features}
 use Rattle.matcher_spec.specs.declared.types.Candidate.{Candidate}
@@ -104,7 +104,7 @@ fitsWhole x index w work32 work64 out =
 
 -- The whole search over the buffers.
 abbrev pub foundIn : Reference → Buffers → Features → List Candidate
-foundIn x index w = wholeSearch (lentMatcher x (index .fine) (index .coarse) (index .fineEnergy) (index .coarseEnergy)) w
+foundIn x index w = wholeSearch (lentMatcher x (lent (index .fine) (index .coarse) (index .fineEnergy) (index .coarseEnergy))) w
 
 -- The local search over the fine half.
 abbrev pub foundNear : Reference → List Float → List Float → Features → Float → Float → List Candidate

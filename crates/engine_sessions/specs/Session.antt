@@ -7,7 +7,8 @@ use lib.ListN.{length, replicate}
 use lib.Ieee.{Float}
 use Rattle.numbers_spec.specs.Arithmetic.{zero⁺}
 use Rattle.matcher_spec.specs.Limits.{candidatesMost}
-use Rattle.engine_spec.specs.Windows.{Index, Window, endpointOf}
+use Rattle.matcher_spec.specs.Index.{Index}
+use Rattle.engine_spec.specs.Windows.{Window, endpointOf}
 use Rattle.matcher_spec.specs.Features.{Features}
 use Rattle.engine_spec.specs.Refusals.{Submission}
 use Rattle.engine_spec.specs.Opening.{blankCandidate, blankSnapshot, opening}

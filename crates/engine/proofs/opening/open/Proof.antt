@@ -2,7 +2,8 @@
 use mathlib.Core.Path.{sym, _∙_}
 use borrow.Author.Needs.{needs}
 use borrow.Author.Tests.{not-true, not-false}
-use Rattle.engine_spec.specs.Lent.{lent}
+use Rattle.matcher_spec.specs.Features.{features}
+use Rattle.matcher_spec.specs.Index.{lent}
 use Rattle.engine_spec.proofs.Contract.{guaranteed}
 use Rattle.engine.proofs.OpenLaws.{open-room, refusal-tested, opening-refused, opening-answered, index-kept, index-filled, accepted-frames, fresh-with, fresh-without}
 use Rattle.engine.proofs.opening.open.Statement.{statement}
@@ -13,7 +14,7 @@ returns c =
     let asked = c .before .before .before in
     let a = asked .before .before .before .before .before .before .before .before .before .before .before .args in
     let x = lent (a .fine .now) (a .coarse .now) (a .fine-energy .now) (a .coarse-energy .now) in
-    let f = reference (a .bands) (a .times .now) (a .values .now) in
+    let f = features (a .bands) (a .times .now) (a .values .now) in
     let h = sym (c .before .before .is-refusal .ensures) ∙ c .before .if1 .taken in
     let o = opening-refused (a .configuration) (a .hop) f x (asked .opening-refusal .ensures) (c .no-engine .ensures) h in
     let n = index-kept (a .configuration) (a .hop) f x (refusal-tested (a .configuration) (a .hop) f x (asked .opening-refusal .ensures) (c .before .before .is-refusal .ensures) (c .before .if1 .taken)) in
@@ -24,9 +25,9 @@ fill-index-requires c κs =
     let asked = c .before .before .before .before .before .before in
     let a = asked .before .before .before .before .before .before .before .before .before .before .before .args in
     let x = lent (a .fine .now) (a .coarse .now) (a .fine-energy .now) (a .coarse-energy .now) in
-    let f = reference (a .bands) (a .times .now) (a .values .now) in
+    let f = features (a .bands) (a .times .now) (a .values .now) in
     let k = open-room (a .configuration) (a .hop) f x (refusal-tested (a .configuration) (a .hop) f x (asked .opening-refusal .ensures) (c .before .before .before .before .before .is-refusal .ensures) (c .before .before .before .before .if1 .left)) in
-    (k .wide, (k .values, (k .fine, (k .coarse, (k .fine-energy, k .coarse-energy)))))
+    (k .wide, (k .values, (record { value-room = k .fine; energy-room = k .fine-energy }, record { value-room = k .coarse; energy-room = k .coarse-energy })))
 
 returns-2 : tie.Need-returns-2
 returns-2 c =
@@ -34,7 +35,7 @@ returns-2 c =
     let asked = filled .before .before .before .before .before .before .before in
     let a = asked .before .before .before .before .before .before .before .before .before .before .before .args in
     let x = lent (a .fine .now) (a .coarse .now) (a .fine-energy .now) (a .coarse-energy .now) in
-    let f = reference (a .bands) (a .times .now) (a .values .now) in
+    let f = features (a .bands) (a .times .now) (a .values .now) in
     let none = refusal-tested (a .configuration) (a .hop) f x (asked .opening-refusal .ensures) (filled .before .before .before .before .before .before .is-refusal .ensures) (filled .before .before .before .before .before .if1 .left) in
     let fill = filled .fill-index .ensures in
     let fresh = c .fresh-engine .ensures ∙ fresh-without (a .configuration) (a .hop) f (c .before .without-index .ensures) (not-true (filled .fill-index .result) (c .before .before .if2 .taken)) in
@@ -48,7 +49,7 @@ with-index-requires c κs =
     let asked = filled .before .before .before .before .before .before .before in
     let a = asked .before .before .before .before .before .before .before .before .before .before .before .args in
     let x = lent (a .fine .now) (a .coarse .now) (a .fine-energy .now) (a .coarse-energy .now) in
-    let f = reference (a .bands) (a .times .now) (a .values .now) in
+    let f = features (a .bands) (a .times .now) (a .values .now) in
     let k = open-room (a .configuration) (a .hop) f x (refusal-tested (a .configuration) (a .hop) f x (asked .opening-refusal .ensures) (filled .before .before .before .before .before .before .is-refusal .ensures) (filled .before .before .before .before .before .if1 .left)) in
     (accepted-frames (a .hop) f (sym (filled .fill-index .ensures .0) ∙ not-false _ (c .if2 .left)), (k .frames, k .bands))
 
@@ -58,7 +59,7 @@ returns-3 c =
     let asked = filled .before .before .before .before .before .before .before in
     let a = asked .before .before .before .before .before .before .before .before .before .before .before .args in
     let x = lent (a .fine .now) (a .coarse .now) (a .fine-energy .now) (a .coarse-energy .now) in
-    let f = reference (a .bands) (a .times .now) (a .values .now) in
+    let f = features (a .bands) (a .times .now) (a .values .now) in
     let none = refusal-tested (a .configuration) (a .hop) f x (asked .opening-refusal .ensures) (filled .before .before .before .before .before .before .is-refusal .ensures) (filled .before .before .before .before .before .if1 .left) in
     let fill = filled .fill-index .ensures in
     let fresh = c .fresh-engine2 .ensures ∙ fresh-with (a .configuration) (a .hop) f (c .before .with-index .ensures) (not-false (filled .fill-index .result) (c .before .before .if2 .left)) in

@@ -5,8 +5,9 @@ use lib.ListN.{length}
 use borrow.Author.Tests.{lt-ltb, le-ltb}
 use mathlib.Core.Path.{_≡_, sym, _∙_}
 use borrow.Author.Needs.{needs}
+use Rattle.matcher_spec.specs.Features.{features}
 use Rattle.engine_spec.specs.Refusals.{refuses}
-use Rattle.engine_spec.specs.Lent.{lent}
+use Rattle.matcher_spec.specs.Index.{lent}
 use Rattle.kistovab.specs.Calls.{configured}
 use Rattle.kistovab.proofs.CallLaws.{short-code, short-index, short-opens, open-code, index-after, refused-opens, opened-opens, opened-zero, guaranteed-of}
 use Rattle.kistovab.proofs.calls.kistovab_open.Statement.{statement}
@@ -19,7 +20,7 @@ returns-2 : tie.Need-returns-2
 returns-2 c =
     let a = c .before .before .before .before .before .before .before .before .before .before .before .before .before .before .before .before .before .before .before .before .before .before .before .before .args in
     let x = lent (a .fine .now) (a .coarse .now) (a .fine-energy .now) (a .coarse-energy .now) in
-    let f = reference (a .bands) (a .times .now) (a .values .now) in
+    let f = features (a .bands) (a .times .now) (a .values .now) in
     let n = length (a .state .now) in
     let long = le-ltb n 106 (c .before .before .before .before .before .before .before .before .before .before .before .before .before .before .before .before .if1 .left) in
     let o = c .before .before .before .before .before .before .before .before .before .before .before .«open» .result in
@@ -32,7 +33,7 @@ returns-3 : tie.Need-returns-3
 returns-3 c =
     let a = c .before .before .before .before .before .before .before .before .before .before .before .before .before .before .before .before .before .before .before .before .before .before .before .before .before .before .before .before .before .args in
     let x = lent (a .fine .now) (a .coarse .now) (a .fine-energy .now) (a .coarse-energy .now) in
-    let f = reference (a .bands) (a .times .now) (a .values .now) in
+    let f = features (a .bands) (a .times .now) (a .values .now) in
     let n = length (a .state .now) in
     let long = le-ltb n 106 (c .before .before .before .before .before .before .before .before .before .before .before .before .before .before .before .before .before .before .before .before .before .if1 .left) in
     let o = c .before .before .before .before .before .before .before .before .before .before .before .before .before .before .before .before .«open» .result in

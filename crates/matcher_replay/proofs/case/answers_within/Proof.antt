@@ -19,7 +19,8 @@ fill-index-requires c κs =
     let p = timed .before .before .before .before .before .before .before .before .pre in
     let s = small _ (p .0) in
     let v = filled .fill-reference .kept .0 in
-    (s .limit .wide, rw (timed .fill-times .kept .0 ∙ p .1 .0) (omega arith))
+    let e = timed .fill-times .kept .0 ∙ p .1 .0 in
+    (s .limit .wide, (rw e (omega arith), (record { value-room = rw e (omega arith); energy-room = rw e (omega arith) }, record { value-room = rw e (omega arith); energy-room = rw e (omega arith) })))
 
 search-in-requires : tie.Need-search-in-requires
 search-in-requires c κs =

@@ -17,14 +17,16 @@ whole-search-requires c κs =
     let p = c .before .before .before .before .before .before .before .before .before .before .before .before .before .before .before .before .before .before .before .before .pre in
     let s = small _ (p .0) in
     let v = c .before .before .before .before .before .before .fill-window .kept .0 in
-    (s .limit .wide, rw (c .before .before .before .before .before .before .before .before .before .before .fill-times .kept .0 ∙ p .1 .1 .1 .1 .1 .0) (omega arith))
+    let e = c .before .before .before .before .before .before .before .before .before .before .fill-times .kept .0 ∙ p .1 .1 .1 .1 .1 .0 in
+    (record { hop = s .limit .wide; some = omega arith; few = omega arith; short = omega arith }, (record { value-room = omega arith; energy-room = omega arith }, (record { value-room = omega arith; energy-room = omega arith }, (rw e (omega arith), record { work32-room = rw e (omega arith); work64-room = rw e (omega arith) }))))
 
 local-search-requires : tie.Need-local-search-requires
 local-search-requires c κs =
     let p = c .before .before .before .before .before .before .before .before .before .before .before .before .before .before .before .before .before .before .before .before .before .before .before .before .before .before .before .before .before .before .before .before .before .pre in
     let s = small _ (p .0) in
     let v = c .before .before .before .before .before .before .before .before .before .before .before .before .before .before .before .before .before .before .before .fill-window .kept .0 in
-    (s .limit .wide, rw (c .before .before .before .before .before .before .before .before .before .before .before .before .before .before .before .before .before .before .before .before .before .before .before .fill-times .kept .0 ∙ p .1 .1 .1 .1 .1 .0) (omega arith))
+    let e = c .before .before .before .before .before .before .before .before .before .before .before .before .before .before .before .before .before .before .before .before .before .before .before .fill-times .kept .0 ∙ p .1 .1 .1 .1 .1 .0 in
+    (record { hop = s .limit .wide; some = omega arith; few = omega arith; short = omega arith }, (record { value-room = omega arith; energy-room = omega arith }, (rw e (omega arith), record { work32-room = rw e (omega arith); work64-room = rw e (omega arith) })))
 
 pub search-within-spec : {M : Type 1} → statement M
 search-within-spec =
