@@ -6,7 +6,7 @@ use lib.Dec.{eqb, leb, ltb}
 use lib.ListN.{drop, getD, length, set, take}
 use lib.Ieee.{Float, le, nan}
 use Rattle.matcher_spec.specs.Candidates.{marginOf, resultOf}
-use Rattle.matcher_spec.specs.Index.{acceptsReference, filled, lentBands, lentMatcher, matcherOf}
+use Rattle.matcher_spec.specs.Index.{Index, acceptsReference, filled, lent, lentBands, lentMatcher, matcherOf}
 use Rattle.matcher_spec.specs.Features.{Features}
 use Rattle.matcher_spec.specs.Search.{localSearch, wholeSearch}
 use Rattle.matcher_spec.specs.declared.types.Candidate.{Candidate}
@@ -25,22 +25,13 @@ fitsLimits bands frames hop = ltb 0 bands && (leb bands bandsMost && (leb frames
 unfoldable pub fitsBands : ℕ → ℕ → ℕ → ℕ → Bool
 fitsBands bands n values energy = leb (bands * n) values && leb (bands * (n + 1)) energy
 
--- The lengths of a window's slices and of the working buffers (document 01, refusals 10, 11 and 13).
+-- The lengths of a window's slices and of the working lent (document 01, refusals 10, 11 and 13).
 unfoldable pub fitsWindow : ℕ → ℕ → ℕ → ℕ → ℕ → ℕ → Bool
 fitsWindow frames bands times values work32 work64 =
     leb bands bandsMost
     && (leb times windowMost && (eqb values (bands * times) && (leb (2 * (bands * times)) work32 && leb (3 * (bands * (times + 1)) + frames) work64)))
 
 -- ---- filling the index
-pub record Buffers : Type 0 where
-  pub fine : List Float
-  pub coarse : List Float
-  pub fineEnergy : List Float
-  pub coarseEnergy : List Float
-
-abbrev pub buffers : List Float → List Float → List Float → List Float → Buffers
-buffers fine coarse fineEnergy coarseEnergy = record { fine = fine; coarse = coarse; fineEnergy = fineEnergy; coarseEnergy = coarseEnergy }
-
 -- Whether the numbers are within their limits, and slices of these lengths long enough.
 unfoldable pub fitsFillLengths : Float → ℕ → ℕ → ℕ → ℕ → ℕ → ℕ → ℕ → Bool
 fitsFillLengths hop bands times values fine coarse fineEnergy coarseEnergy =
@@ -48,21 +39,21 @@ fitsFillLengths hop bands times values fine coarse fineEnergy coarseEnergy =
     && (eqb values (bands * times) && (fitsBands bands times fine fineEnergy && fitsBands bands (times / 4) coarse coarseEnergy))
 
 -- Whether the index can be filled.
-abbrev pub fitsFill : Float → ℕ → List Float → List Float → Buffers → Bool
+abbrev pub fitsFill : Float → ℕ → List Float → List Float → Index → Bool
 fitsFill hop bands times values old =
     fitsFillLengths hop bands (length times) (length values) (length (old .fine)) (length (old .coarse)) (length (old .fineEnergy)) (length (old .coarseEnergy))
 
 -- 1 where the index is filled, 0 where the reference is rejected.
-unfoldable pub fillAnswer : Float → ℕ → List Float → List Float → Buffers → ℕ
+unfoldable pub fillAnswer : Float → ℕ → List Float → List Float → Index → ℕ
 fillAnswer hop bands times values old =
     cond (fitsFill hop bands times values old) (cond (acceptsReference hop bands times values) 1 0) unfit
 
 -- The buffers afterwards: each filled at its front, or as it was.
-unfoldable pub filledBuffers : Float → ℕ → List Float → List Float → Buffers → Buffers
+unfoldable pub filledBuffers : Float → ℕ → List Float → List Float → Index → Index
 filledBuffers hop bands times values old =
     let fills = fitsFill hop bands times values old && acceptsReference hop bands times values in
     let m = matcherOf hop bands times values in
-    buffers
+    lent
     (filled fills (m .fine .values) (old .fine))
     (filled fills (m .coarse .values) (old .coarse))
     (filled fills (m .fine .energy) (old .fineEnergy))
@@ -97,14 +88,14 @@ fitsLocal x fine energy w work32 work64 out =
     fitsLocalLengths x (length fine) (length energy) (w .bands) (length (w .times)) (length (w .values)) work32 work64 out
 
 -- Whether a whole search fits: the same, and the coarse half of the index.
-unfoldable pub fitsWhole : Reference → Buffers → Features → ℕ → ℕ → ℕ → Bool
+unfoldable pub fitsWhole : Reference → Index → Features → ℕ → ℕ → ℕ → Bool
 fitsWhole x index w work32 work64 out =
     fitsLocal x (index .fine) (index .fineEnergy) w work32 work64 out
     && fitsBands (x .bands) (x .frames / 4) (length (index .coarse)) (length (index .coarseEnergy))
 
 -- The whole search over the buffers.
-abbrev pub foundIn : Reference → Buffers → Features → List Candidate
-foundIn x index w = wholeSearch (lentMatcher x (index .fine) (index .coarse) (index .fineEnergy) (index .coarseEnergy)) w
+abbrev pub foundIn : Reference → Index → Features → List Candidate
+foundIn x index w = wholeSearch (lentMatcher x index) w
 
 -- The local search over the fine half.
 abbrev pub foundNear : Reference → List Float → List Float → Features → Float → Float → List Candidate

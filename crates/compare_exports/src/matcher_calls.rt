@@ -4,7 +4,8 @@ ghost use Prim.Native.Nat.{_≤_};
 ghost use lib.ListN.{drop, length};
 ghost use mathlib.Core.List.{_++_};
 ghost use mathlib.Core.Path.{_≡_};
-ghost use Rattle.compare_exports.specs.MatcherCalls.{buffers, candidateAt, candidatesAt, counted, fillAnswer, filledBuffers, fitsBands, fitsFillLengths, fitsLimits, fitsLocal, fitsLocalLengths, fitsMargin, fitsWhole, fitsWindow, foundIn, foundNear, marginAnswer, marginWritten, numbersOf, referenceOf, written};
+ghost use Rattle.compare_exports.specs.MatcherCalls.{candidateAt, candidatesAt, counted, fillAnswer, filledBuffers, fitsBands, fitsFillLengths, fitsLimits, fitsLocal, fitsLocalLengths, fitsMargin, fitsWhole, fitsWindow, foundIn, foundNear, marginAnswer, marginWritten, numbersOf, referenceOf, written};
+ghost use Rattle.matcher_spec.specs.Index.{lent};
 ghost use Rattle.matcher_spec.specs.Features.{features};
 ghost use Rattle.matcher_spec.specs.Limits.{framesMost, bandsMost};
 use matcher::index::fill_index;
@@ -99,11 +100,11 @@ pub extern "C" fn matcher_fill_index(
     times: &[f64],
     values: &[f32],
 ) -> usize
-    ensures { λ r. ⌜ r ≡ fillAnswer hop bands (now (times .entry)) (now (values .entry)) (buffers (now (fine .entry)) (now (coarse .entry)) (now («fine_energy» .entry)) (now («coarse_energy» .entry))) ⌝ }
-    ensures { λ _. ⌜ now (fine .exit) ≡ filledBuffers hop bands (now (times .entry)) (now (values .entry)) (buffers (now (fine .entry)) (now (coarse .entry)) (now («fine_energy» .entry)) (now («coarse_energy» .entry))) .fine ⌝ }
-    ensures { λ _. ⌜ now (coarse .exit) ≡ filledBuffers hop bands (now (times .entry)) (now (values .entry)) (buffers (now (fine .entry)) (now (coarse .entry)) (now («fine_energy» .entry)) (now («coarse_energy» .entry))) .coarse ⌝ }
-    ensures { λ _. ⌜ now («fine_energy» .exit) ≡ filledBuffers hop bands (now (times .entry)) (now (values .entry)) (buffers (now (fine .entry)) (now (coarse .entry)) (now («fine_energy» .entry)) (now («coarse_energy» .entry))) .fineEnergy ⌝ }
-    ensures { λ _. ⌜ now («coarse_energy» .exit) ≡ filledBuffers hop bands (now (times .entry)) (now (values .entry)) (buffers (now (fine .entry)) (now (coarse .entry)) (now («fine_energy» .entry)) (now («coarse_energy» .entry))) .coarseEnergy ⌝ }
+    ensures { λ r. ⌜ r ≡ fillAnswer hop bands (now (times .entry)) (now (values .entry)) (lent (now (fine .entry)) (now (coarse .entry)) (now («fine_energy» .entry)) (now («coarse_energy» .entry))) ⌝ }
+    ensures { λ _. ⌜ now (fine .exit) ≡ filledBuffers hop bands (now (times .entry)) (now (values .entry)) (lent (now (fine .entry)) (now (coarse .entry)) (now («fine_energy» .entry)) (now («coarse_energy» .entry))) .fine ⌝ }
+    ensures { λ _. ⌜ now (coarse .exit) ≡ filledBuffers hop bands (now (times .entry)) (now (values .entry)) (lent (now (fine .entry)) (now (coarse .entry)) (now («fine_energy» .entry)) (now («coarse_energy» .entry))) .coarse ⌝ }
+    ensures { λ _. ⌜ now («fine_energy» .exit) ≡ filledBuffers hop bands (now (times .entry)) (now (values .entry)) (lent (now (fine .entry)) (now (coarse .entry)) (now («fine_energy» .entry)) (now («coarse_energy» .entry))) .fineEnergy ⌝ }
+    ensures { λ _. ⌜ now («coarse_energy» .exit) ≡ filledBuffers hop bands (now (times .entry)) (now (values .entry)) (lent (now (fine .entry)) (now (coarse .entry)) (now («fine_energy» .entry)) (now («coarse_energy» .entry))) .coarseEnergy ⌝ }
 {
     if !fits_fill(
         hop,
@@ -190,8 +191,8 @@ pub extern "C" fn matcher_whole_search(
     work64: &mut [f64],
     out: &mut [f64],
 ) -> usize
-    ensures { λ r. ⌜ r ≡ counted (fitsWhole (referenceOf «reference_bands» frames start hop) (buffers (now (fine .entry)) (now (coarse .entry)) (now («fine_energy» .entry)) (now («coarse_energy» .entry))) (features bands (now (times .entry)) (now (values .entry))) (length (now (work32 .entry))) (length (now (work64 .entry))) (length (now (out .entry)))) (foundIn (referenceOf «reference_bands» frames start hop) (buffers (now (fine .entry)) (now (coarse .entry)) (now («fine_energy» .entry)) (now («coarse_energy» .entry))) (features bands (now (times .entry)) (now (values .entry)))) ⌝ }
-    ensures { λ _. ⌜ now (out .exit) ≡ written (fitsWhole (referenceOf «reference_bands» frames start hop) (buffers (now (fine .entry)) (now (coarse .entry)) (now («fine_energy» .entry)) (now («coarse_energy» .entry))) (features bands (now (times .entry)) (now (values .entry))) (length (now (work32 .entry))) (length (now (work64 .entry))) (length (now (out .entry)))) (foundIn (referenceOf «reference_bands» frames start hop) (buffers (now (fine .entry)) (now (coarse .entry)) (now («fine_energy» .entry)) (now («coarse_energy» .entry))) (features bands (now (times .entry)) (now (values .entry)))) (now (out .entry)) ⌝ }
+    ensures { λ r. ⌜ r ≡ counted (fitsWhole (referenceOf «reference_bands» frames start hop) (lent (now (fine .entry)) (now (coarse .entry)) (now («fine_energy» .entry)) (now («coarse_energy» .entry))) (features bands (now (times .entry)) (now (values .entry))) (length (now (work32 .entry))) (length (now (work64 .entry))) (length (now (out .entry)))) (foundIn (referenceOf «reference_bands» frames start hop) (lent (now (fine .entry)) (now (coarse .entry)) (now («fine_energy» .entry)) (now («coarse_energy» .entry))) (features bands (now (times .entry)) (now (values .entry)))) ⌝ }
+    ensures { λ _. ⌜ now (out .exit) ≡ written (fitsWhole (referenceOf «reference_bands» frames start hop) (lent (now (fine .entry)) (now (coarse .entry)) (now («fine_energy» .entry)) (now («coarse_energy» .entry))) (features bands (now (times .entry)) (now (values .entry))) (length (now (work32 .entry))) (length (now (work64 .entry))) (length (now (out .entry)))) (foundIn (referenceOf «reference_bands» frames start hop) (lent (now (fine .entry)) (now (coarse .entry)) (now («fine_energy» .entry)) (now («coarse_energy» .entry))) (features bands (now (times .entry)) (now (values .entry)))) (now (out .entry)) ⌝ }
 {
     let reference = Reference {
         bands: reference_bands,

@@ -13,8 +13,7 @@ use Rattle.numbers_spec.specs.Rows.{allTo, every}
 use Rattle.matcher_spec.specs.Centring.{wideHop}
 use Rattle.matcher_spec.specs.Timeline.{regular, onTime, validValues}
 use Rattle.matcher_spec.specs.Energy.{reduction}
-use Rattle.matcher_spec.specs.Index.{acceptsReference, filled}
-use Rattle.engine_spec.specs.Windows.{Index}
+use Rattle.matcher_spec.specs.Index.{Index, acceptsReference, filled}
 use Rattle.matcher_spec.specs.Features.{Features}
 use Rattle.engine_spec.specs.Refusals.{numberOf, refuses, nearOrNotFinite, validConfiguration, hopInRange, countsInRange, indexFits, openingRefusal}
 use Rattle.engine_spec.specs.Opening.{noEngine, freshEngine, withIndex, withoutIndex, acceptsFeatures, openedSettings, opening, fills, matcherOfReference, openedIndex}

@@ -1,7 +1,7 @@
 // Opening: fills the index of a reference and gives the engine that submissions start from.
 ghost use mathlib.Core.Path.{_≡_};
 ghost use Rattle.engine_spec.specs.Opening.{openedIndex, opening};
-ghost use Rattle.engine_spec.specs.Lent.{lent};
+ghost use Rattle.matcher_spec.specs.Index.{lent};
 ghost use Rattle.engine_spec.specs.Guaranteed.{Guaranteed};
 ghost use Rattle.matcher_spec.specs.Features.{features};
 use engine_answers::fresh::fresh_engine;

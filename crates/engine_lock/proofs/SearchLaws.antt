@@ -8,7 +8,7 @@ use mathlib.Core.Path.{_≡_, refl, sym, ap, subst, _∙_}
 use borrow.Author.Tests.{ne-eqb, lt-ltb}
 use lib.ListN.{length}
 use lib.Ieee.{Float}
-use Rattle.matcher_spec.specs.Index.{Matcher}
+use Rattle.matcher_spec.specs.Index.{Index, Matcher}
 use Rattle.matcher_spec.specs.declared.types.Reference.{Reference}
 use Rattle.matcher_spec.specs.Search as search
 use Rattle.matcher_spec.specs.Features.{Features}
@@ -16,7 +16,7 @@ use Rattle.matcher_spec.specs.Search.{FilledQuery, localSearch, wholeSearch}
 use Rattle.matcher_spec.specs.Candidates.{resultOf, listed}
 use Rattle.matcher_spec.specs.declared.types.Candidate.{Candidate}
 use Rattle.matcher_spec.specs.declared.types.MatchResult.{MatchResult}
-use Rattle.engine_spec.specs.Windows.{Index, Window, query, evidence, endpointOf}
+use Rattle.engine_spec.specs.Windows.{Window, query, evidence, endpointOf}
 use Rattle.engine_spec.specs.Room.{Room}
 use Rattle.engine_spec.specs.declared.types.Settings.{Settings}
 use Rattle.engine_spec.specs.Refusals.{bothOrNeither}

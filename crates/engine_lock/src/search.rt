@@ -1,19 +1,19 @@
 // The searches of one window. Its query is filled once, and only where a search is made.
-ghost use Prim.Native.Nat.{_+_, _*_, _<_, _≤_};
+ghost use Prim.Native.Nat.{_*_, _<_, _≤_};
 ghost use lib.Ieee.{Float};
 ghost use lib.ListN.{length};
 ghost use mathlib.Core.Bool.{cond, false, true};
 ghost use mathlib.Core.List.{[]};
 ghost use mathlib.Core.Path.{_≡_};
-ghost use Rattle.matcher_spec.specs.Centring.{wideHop};
-ghost use Rattle.matcher_spec.specs.Search.{FilledQuery, wholeSearch};
+ghost use Rattle.matcher_spec.specs.Search.{FilledQuery, wholeSearch, InRange, WorkRoom};
 ghost use Rattle.matcher_spec.specs.Features.{features};
 ghost use Rattle.engine_spec.specs.declared.types.RecordedMs as recorded;
 ghost use Rattle.engine_spec.specs.declared.types.Hypothesis.the-variants as hypothesis;
 ghost use Rattle.engine_spec.specs.Windows.{matcherIn, query, referenceOf};
 ghost use Rattle.engine_spec.specs.Tracking.{mayCoast, tracked, unsupported};
 ghost use Rattle.engine_spec.specs.Locking.{locallySearched, searched, wholeSearched};
-ghost use Rattle.engine_spec.specs.Lent.{lent, window};
+ghost use Rattle.matcher_spec.specs.Index.{lent};
+ghost use Rattle.engine_spec.specs.Lent.{window};
 ghost use Rattle.engine_spec.specs.Room.{Room};
 ghost use Rattle.engine_lock.specs.Views.{reachedIn, searchedIn, trackedIn};
 ghost use Rattle.matcher_spec.specs.Limits.{candidatesMost};
@@ -233,8 +233,8 @@ fn fill_if(
     work32: &mut [f32],
     work64: &mut [f64],
 ) -> bool
-    requires { ⌜ wideHop (reference .«hop_ms») ≡ true ⌝ ∗ ⌜ 0 < reference .bands ⌝ }
-    requires { ⌜ length (now values) ≡ bands * length (now times) ⌝ ∗ ⌜ 2 * (bands * length (now times)) ≤ length (now work32) ⌝ ∗ ⌜ 3 * (bands * (length (now times) + 1)) + reference .frames ≤ length (now work64) ⌝ }
+    requires { ⌜ InRange reference ⌝ }
+    requires { ⌜ length (now values) ≡ bands * length (now times) ⌝ ∗ ⌜ WorkRoom reference bands (length (now times)) (now work32) (now work64) ⌝ }
     ensures { λ r. ⌜ (due ≡ true → FilledQuery reference (features bands (now (times .entry)) (now (values .entry))) r (now (work32 .exit)) (now (work64 .exit))) ⌝ }
 {
     if !due {

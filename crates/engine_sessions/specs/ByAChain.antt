@@ -4,7 +4,8 @@ use mathlib.Core.Bool.{true, false}
 use mathlib.Core.List.{[], _∷_}
 use lib.IntN.{pos, negsuc}
 use lib.Ieee.{Float, fin, inf}
-use Rattle.engine_spec.specs.Windows.{Index, Window}
+use Rattle.matcher_spec.specs.Index.{Index}
+use Rattle.engine_spec.specs.Windows.{Window}
 use Rattle.matcher_spec.specs.Features.{Features}
 use Rattle.engine_spec.specs.Opening.{openedIndex}
 use Rattle.engine_spec.specs.declared.types.Configuration.{Configuration}

@@ -6,8 +6,8 @@ use mathlib.Core.Path.{_≡_}
 use lib.ListN.{length, replicate}
 use lib.Ieee.{Float}
 use Rattle.numbers_spec.specs.Arithmetic.{zero⁺}
-use Rattle.matcher_spec.specs.Limits.{candidatesMost}
-use Rattle.engine_spec.specs.Windows.{Index, Window, endpointOf}
+use Rattle.matcher_spec.specs.Index.{Index}
+use Rattle.engine_spec.specs.Windows.{Window, endpointOf}
 use Rattle.matcher_spec.specs.Features.{Features}
 use Rattle.engine_spec.specs.Refusals.{Submission}
 use Rattle.engine_spec.specs.Opening.{blankCandidate, blankSnapshot, opening}
@@ -23,6 +23,7 @@ use Rattle.engine_spec.specs.declared.types.SubmitResult.{SubmitResult}
 use Rattle.engine_spec.specs.declared.types.Endpoint.the-variants as endpoint
 use Rattle.engine_spec.specs.declared.types.Answer.{Answer}
 use Rattle.engine_spec.specs.declared.types.Answer.the-variants as answer
+use Rattle.matcher_spec.specs.Limits.{candidatesMost}
 
 -- ---- what is handed in
 -- Buffers as long as opening asks of them, full of zeros.

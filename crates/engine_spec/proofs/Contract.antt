@@ -2,7 +2,7 @@
 use mathlib.Core.Path.{_≡_, sym, subst}
 use lib.Ieee.{Float}
 use Rattle.numbers_spec.specs.Rows.{Every, F32}
-use Rattle.engine_spec.specs.Windows.{Index}
+use Rattle.matcher_spec.specs.Index.{Index}
 use Rattle.matcher_spec.specs.Features.{Features}
 use Rattle.engine_spec.specs.Opening.{opening, openedIndex}
 use Rattle.engine_spec.specs.declared.types.Configuration.{Configuration}

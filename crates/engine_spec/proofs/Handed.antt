@@ -18,13 +18,13 @@ use Rattle.matcher_spec.specs.Timeline.{validValues}
 use Rattle.matcher_spec.specs.SoundSearch.{GoodWindow}
 use Rattle.numbers_spec.proofs.Within.{at-most-within}
 use Rattle.matcher_spec.proofs.Bounds.{widened-to}
-use Rattle.matcher_spec.specs.Limits.{farthestMs, windowMost, bandsMost, farthest}
 use Rattle.engine_spec.specs.Windows.{query, endpointOf}
 use Rattle.engine_spec.specs.Refusals.{numberOf, refuses, unless, near, indexFits, validWindow, validEnergy, Submission, handedRefusal}
 use Rattle.engine_spec.specs.declared.types.Settings.{Settings}
 use Rattle.engine_spec.specs.declared.types.Answer.{Answer}
 use Rattle.engine_spec.specs.declared.types.Answer.the-variants as answer
 use Rattle.engine_spec.proofs.Tests.{and-l, and-r, T-is, below-or}
+use Rattle.matcher_spec.specs.Limits.{windowMost, bandsMost, farthestMs, farthest}
 
 -- ---- refusals in order
 -- Where the whole is no refusal, the first test passed and the rest is none.

@@ -15,11 +15,11 @@ use Rattle.numbers_spec.specs.Values.{Number}
 use Rattle.numbers_spec.specs.Rows.{allTo, Every, F32, every}
 use Rattle.matcher_spec.specs.Timeline.{regular, onTime, validValues}
 use Rattle.matcher_spec.specs.declared.types.Candidate.{Candidate}
-use Rattle.matcher_spec.specs.Index.{Matcher, acceptsReference, matcherOf, filled, lentMatcher}
+use Rattle.matcher_spec.specs.Index.{Index, Matcher, acceptsReference, matcherOf, filled, lent, lentMatcher}
 use Rattle.matcher_spec.specs.SoundSearch.{GoodReference, SoundResult}
 use Rattle.matcher_spec.proofs.SoundSearch.{whole-sound, local-sound}
 use Rattle.matcher_spec.proofs.FilledIndex.{filled-index}
-use Rattle.engine_spec.specs.Windows.{Index, Window, indexed, matcherIn, query, endpointOf}
+use Rattle.engine_spec.specs.Windows.{Window, indexed, matcherIn, query, endpointOf}
 use Rattle.matcher_spec.specs.Features.{Features}
 use Rattle.engine_spec.specs.Refusals.{numberOf, refuses, near, nearOrNotFinite, validConfiguration, hopInRange, countsInRange, bothOrNeither, openingRefusal, validSettings, Submission, handedRefusal}
 use Rattle.engine_spec.specs.Opening.{freshEngine, withIndex, withoutIndex, acceptsFeatures, openedSettings, opening, fills, matcherOfReference, openedIndex}
@@ -170,11 +170,11 @@ module _ (c : Configuration) (hop : Float) (reference : Features) (x : Index) (o
     matcher-held y f =
         let m = matcherOfReference hop reference in
         ap (λ (s : Settings). matcherIn s y) (indexed-settings c hop reference there)
-        ∙ (λ k. lentMatcher (m .reference)
+        ∙ (λ k. lentMatcher (m .reference) (lent
         (refilled (m .fine .values) (y .fine) (f .fine) k)
         (refilled (m .coarse .values) (y .coarse) (f .coarse) k)
         (refilled (m .fine .energy) (y .fineEnergy) (f .fineEnergy) k)
-        (refilled (m .coarse .energy) (y .coarseEnergy) (f .coarseEnergy) k))
+        (refilled (m .coarse .energy) (y .coarseEnergy) (f .coarseEnergy) k)))
         ∙ filled-index hop (reference .bands) (reference .times) (reference .values) (eqb→eq (length (reference .values)) (reference .bands * length (reference .times)) (tested .full)) .is-held (y .fine) (y .coarse) (y .fineEnergy) (y .coarseEnergy)
 
     filling : T (fills c hop reference x)

@@ -8,8 +8,8 @@ use native.Mathlib.Nat.{lt-irrefl}
 use lib.Dec.{T}
 use lib.ListN.{length, getD}
 use lib.Ieee.{Float}
-use Rattle.matcher_spec.specs.Index.{Matcher}
-use Rattle.engine_spec.specs.Windows.{Index, Window, rereads}
+use Rattle.matcher_spec.specs.Index.{Index, Matcher}
+use Rattle.engine_spec.specs.Windows.{Window, rereads}
 use Rattle.matcher_spec.specs.Features.{Features}
 use Rattle.engine_spec.specs.Refusals.{Submission, refuses, handedRefusal, submissionRefusal}
 use Rattle.engine_spec.specs.Opening.{freshEngine, openedSettings, matcherOfReference}

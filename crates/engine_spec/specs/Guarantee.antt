@@ -10,10 +10,10 @@ use lib.Ieee.Scale.{finite}
 use Rattle.numbers_spec.specs.Arithmetic.{_⊖_, zero⁺, absolute}
 use Rattle.matcher_spec.specs.Candidates.{apartMs, marginOf}
 use Rattle.matcher_spec.specs.declared.types.Candidate.{Candidate}
-use Rattle.matcher_spec.specs.Index.{Matcher}
+use Rattle.matcher_spec.specs.Index.{Index, Matcher}
 use Rattle.matcher_spec.specs.Search.{wholeSearch}
 use Rattle.numbers_spec.specs.Rows.{Every, F32}
-use Rattle.engine_spec.specs.Windows.{Index, Window, indexed, query, endpointOf, rereads}
+use Rattle.engine_spec.specs.Windows.{Window, indexed, query, endpointOf, rereads}
 use Rattle.matcher_spec.specs.Features.{Features}
 use Rattle.engine_spec.specs.Refusals.{Submission, refuses, indexFits, handedRefusal}
 use Rattle.engine_spec.specs.Opening.{blankCandidate, blankSnapshot, opening, openedSettings, matcherOfReference}

@@ -7,7 +7,8 @@ use lib.Dec.{T}
 use lib.ListN.{length, getD}
 use lib.Ieee.{Float}
 use Rattle.numbers_spec.specs.Rows.{Every, F32}
-use Rattle.engine_spec.specs.Windows.{Index, indexed}
+use Rattle.matcher_spec.specs.Index.{Index}
+use Rattle.engine_spec.specs.Windows.{indexed}
 use Rattle.matcher_spec.specs.Features.{Features}
 use Rattle.engine_spec.specs.Refusals.{Submission, refuses, handedRefusal, submissionRefusal}
 use Rattle.engine_spec.specs.Opening.{opening, openedIndex, openedSettings, matcherOfReference}

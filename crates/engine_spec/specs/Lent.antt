@@ -2,12 +2,10 @@
 use Prim.Native.Nat.{ℕ}
 use mathlib.Core.List.{List}
 use lib.Ieee.{Float}
-use Rattle.engine_spec.specs.Windows.{Index, Window}
+use Rattle.matcher_spec.specs.Index.{Index}
+use Rattle.engine_spec.specs.Windows.{Window}
 use Rattle.engine_spec.specs.Refusals.{Submission}
 use Rattle.engine_spec.specs.declared.types.ClockMs.{ClockMs}
-
-abbrev pub lent : List Float → List Float → List Float → List Float → Index
-lent fine coarse fineEnergy coarseEnergy = record { fine = fine; coarse = coarse; fineEnergy = fineEnergy; coarseEnergy = coarseEnergy }
 
 abbrev pub window : ℕ → List Float → List Float → List Float → Window
 window bands times energies values = record { bands = bands; times = times; energies = energies; values = values }

@@ -3,8 +3,7 @@ use mathlib.Core.Bool.{Bool, true, false, cond, not, _&&_}
 use lib.ListN.{length, getD, replicate}
 use lib.Ieee.{Float, nan, inf, binary64, ofBits}
 use Rattle.numbers_spec.specs.Arithmetic.{zero⁺}
-use Rattle.matcher_spec.specs.Index.{Matcher, acceptsReference, matcherOf, filled}
-use Rattle.engine_spec.specs.Windows.{Index}
+use Rattle.matcher_spec.specs.Index.{Index, Matcher, acceptsReference, matcherOf, filled}
 use Rattle.matcher_spec.specs.Features.{Features}
 use Rattle.engine_spec.specs.Refusals.{refuses, openingRefusal}
 use Rattle.engine_spec.specs.declared.types.Configuration.{Configuration}

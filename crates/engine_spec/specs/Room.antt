@@ -4,7 +4,8 @@ use mathlib.Core.Bool.{true}
 use mathlib.Core.Path.{_≡_}
 use lib.ListN.{length}
 use Rattle.matcher_spec.specs.Centring.{wideHop}
-use Rattle.engine_spec.specs.Windows.{Index, Window}
+use Rattle.matcher_spec.specs.Index.{Index}
+use Rattle.engine_spec.specs.Windows.{Window}
 use Rattle.engine_spec.specs.Refusals.{bothOrNeither}
 use Rattle.engine_spec.specs.declared.types.Settings.{Settings}
 use Rattle.matcher_spec.specs.Limits.{framesMost, bandsMost}

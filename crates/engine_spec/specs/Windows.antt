@@ -8,7 +8,7 @@ use lib.Ieee.{Float, nan, lt}
 use Rattle.numbers_spec.specs.Arithmetic.{_⊕_, _⊖_, _⊗_, two}
 use Rattle.matcher_spec.specs.Centring.{contextFrames}
 use Rattle.matcher_spec.specs.Timeline.{accepts}
-use Rattle.matcher_spec.specs.Index.{Matcher, lentMatcher}
+use Rattle.matcher_spec.specs.Index.{Index, Matcher, lentMatcher}
 use Rattle.matcher_spec.specs.declared.types.Reference.{Reference}
 use Rattle.matcher_spec.specs.Features.{Features, features}
 use Rattle.engine_spec.specs.Thresholds.{rereadMs}
@@ -18,13 +18,6 @@ use Rattle.engine_spec.specs.declared.types.Endpoint.{Endpoint}
 use Rattle.engine_spec.specs.declared.types.Endpoint.the-variants as endpoint
 
 -- ---- what is lent
--- The four buffers of the index.
-pub record Index : Type 0 where
-  pub fine : List Float
-  pub coarse : List Float
-  pub fineEnergy : List Float
-  pub coarseEnergy : List Float
-
 -- A window: a time and an energy for each frame, and values band after band.
 pub record Window : Type 0 where
   pub bands : ℕ
@@ -42,7 +35,7 @@ referenceOf s = record { bands = s .«reference_bands»; frames = s .«reference
 
 -- The matcher that a lent index holds.
 abbrev pub matcherIn : Settings → Index → Matcher
-matcherIn s x = lentMatcher (referenceOf s) (x .fine) (x .coarse) (x .fineEnergy) (x .coarseEnergy)
+matcherIn s x = lentMatcher (referenceOf s) x
 
 -- ---- a window's times
 -- How long b lies after a, in f64.

@@ -9,7 +9,8 @@ use lib.Dec.{ltb, eqb}
 use lib.ListN.{length, drop}
 use lib.Ieee.{Float}
 use Rattle.engine_spec.specs.Guaranteed.{Guaranteed}
-use Rattle.engine_spec.specs.Windows.{Index, rereads}
+use Rattle.matcher_spec.specs.Index.{Index}
+use Rattle.engine_spec.specs.Windows.{rereads}
 use Rattle.matcher_spec.specs.Features.{Features}
 use Rattle.engine_spec.specs.Refusals.{Submission, numberOf, refuses, unless, nearOrNotFinite, validConfiguration, hopInRange, countsInRange, indexFits, openingRefusal, submissionRefusal}
 use Rattle.numbers_spec.specs.Rows.{every}

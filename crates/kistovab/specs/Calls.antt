@@ -6,7 +6,7 @@ use mathlib.Core.List.{List}
 use lib.Dec.{ltb}
 use lib.ListN.{drop}
 use lib.Ieee.{Float}
-use Rattle.engine_spec.specs.Windows.{Index}
+use Rattle.matcher_spec.specs.Index.{Index}
 use Rattle.engine_spec.specs.Refusals.{refuses}
 use Rattle.engine_spec.specs.declared.types.Configuration.{Configuration}
 use Rattle.engine_spec.specs.declared.types.OpenResult.{OpenResult}

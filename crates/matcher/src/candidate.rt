@@ -3,10 +3,10 @@ ghost use Prim.Native.Nat.{_+_, _*_, _<_, _≤_};
 ghost use lib.ListN.{drop, length, take};
 ghost use mathlib.Core.List.{[]};
 ghost use mathlib.Core.Path.{_≡_};
-ghost use Rattle.matcher_spec.specs.Energy.{bandsOf, wholeEnergies};
-ghost use Rattle.matcher_spec.specs.Limits.{framesMost, bandsMost};
+ghost use Rattle.matcher_spec.specs.Energy.{bandsOf, wholeEnergies, Holds};
 ghost use Rattle.matcher_spec.specs.Scores.{correlations};
-ghost use Rattle.matcher_spec.specs.Search.{candidateIn, candidateOf, clamped, fraction, vertex};
+ghost use Rattle.matcher_spec.specs.Search.{candidateIn, candidateOf, clamped, fraction, vertex, QueryFits};
+ghost use Rattle.matcher_spec.specs.Limits.{framesMost, bandsMost};
 use matcher_bands::energy::whole_energies;
 use matcher_picks::peaks::first_maximum;
 use matcher_scores::scores::correlations;
@@ -31,9 +31,9 @@ pub fn best_candidate(
     low: usize,
     high: usize,
 ) -> Candidate
-    requires { ⌜ reference .bands ≤ bandsMost ⌝ ∗ ⌜ low ≤ high ⌝ ∗ ⌜ high + n ≤ reference .frames ⌝ ∗ ⌜ reference .frames ≤ framesMost ⌝ }
-    requires { ⌜ reference .bands * reference .frames ≤ length (now fine) ⌝ ∗ ⌜ reference .bands * (reference .frames + 1) ≤ length (now energy) ⌝ }
-    requires { ⌜ reference .bands * n ≤ length (now query) ⌝ ∗ ⌜ reference .bands * (n + 1) ≤ at ⌝ ∗ ⌜ at + reference .frames ≤ length (now work) ⌝ ∗ ⌜ 0 < n ⌝ }
+    requires { ⌜ QueryFits reference n ⌝ ∗ ⌜ low ≤ high ⌝ ∗ ⌜ high + n ≤ reference .frames ⌝ }
+    requires { ⌜ Holds (reference .bands) (reference .frames) (now fine) (now energy) ⌝ }
+    requires { ⌜ reference .bands * n ≤ length (now query) ⌝ ∗ ⌜ reference .bands * (n + 1) ≤ at ⌝ ∗ ⌜ at + reference .frames ≤ length (now work) ⌝ }
     ensures { λ r. ⌜ r ≡ candidateIn reference (bandsOf (reference .frames) (now (fine .entry)) (now (energy .entry))) (bandsOf n (now (query .entry)) (take (reference .bands * (n + 1)) (now (work .entry)))) start low high ⌝ }
     ensures { λ _. ⌜ take at (now (work .exit)) ≡ take at (now (work .entry)) ⌝ }
 {
@@ -82,7 +82,7 @@ pub fn score_places(
     places: usize,
 )
     requires { ⌜ bands ≤ bandsMost ⌝ ∗ ⌜ frames ≤ framesMost ⌝ ∗ ⌜ low + places + n ≤ frames + 1 ⌝ }
-    requires { ⌜ bands * frames ≤ length (now reference) ⌝ ∗ ⌜ bands * (frames + 1) ≤ length (now energy) ⌝ }
+    requires { ⌜ Holds bands frames (now reference) (now energy) ⌝ }
     requires { ⌜ bands * n ≤ length (now query) ⌝ ∗ ⌜ from + bands * (n + 1) ≤ at ⌝ ∗ ⌜ at + places ≤ length (now work) ⌝ }
     ensures { λ _. ⌜ take places (drop at (now (work .exit))) ≡ correlations bands (bandsOf frames (now (reference .entry)) (now (energy .entry))) n (now (query .entry)) (wholeEnergies bands (bandsOf n [] (take (bands * (n + 1)) (drop from (now (work .entry)))))) low places ⌝ }
     ensures { λ _. ⌜ take at (now (work .exit)) ≡ take at (now (work .entry)) ⌝ }
@@ -116,8 +116,8 @@ fn candidate_of(
     low: usize,
 ) -> Candidate
     requires { ⌜ 0 < length (now scores) ⌝ ∗ ⌜ low + length (now scores) + n ≤ reference .frames + 1 ⌝ }
-    requires { ⌜ reference .bands * reference .frames ≤ length (now fine) ⌝ ∗ ⌜ reference .bands * (reference .frames + 1) ≤ length (now energy) ⌝ }
-    requires { ⌜ reference .bands * n ≤ length (now query) ⌝ ∗ ⌜ reference .bands * (n + 1) ≤ length (now «query_energy») ⌝ }
+    requires { ⌜ Holds (reference .bands) (reference .frames) (now fine) (now energy) ⌝ }
+    requires { ⌜ Holds (reference .bands) n (now query) (now «query_energy») ⌝ }
     ensures { λ r. ⌜ r ≡ candidateOf reference (bandsOf (reference .frames) (now (fine .entry)) (now (energy .entry))) (bandsOf n (now (query .entry)) (now («query_energy» .entry))) start low (now (scores .entry)) ⌝ }
 {
     let bands = reference.bands;

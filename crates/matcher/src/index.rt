@@ -4,7 +4,7 @@ ghost use lib.ListN.{drop, length};
 ghost use mathlib.Core.Bool.{true};
 ghost use mathlib.Core.List.{_++_};
 ghost use mathlib.Core.Path.{_≡_};
-ghost use Rattle.matcher_spec.specs.Energy.{allAverages, allEnergies};
+ghost use Rattle.matcher_spec.specs.Energy.{allAverages, allEnergies, Holds};
 ghost use Rattle.matcher_spec.specs.Index.{acceptsReference, filled, fineValues, matcherOf};
 ghost use Rattle.matcher_spec.specs.Centring.{wideHop};
 use matcher_bands::centring::centre_bands;
@@ -45,7 +45,7 @@ fn fill_fine(
 // The coarse half: each band averaged by fours, and its energies.
 fn fill_coarse(coarse: &mut [f32], energy: &mut [f64], fine: &[f32], bands: usize, n: usize)
     requires { ⌜ bands * n ≤ length (now fine) ⌝ }
-    requires { ⌜ bands * (n / 4) ≤ length (now coarse) ⌝ ∗ ⌜ bands * (n / 4 + 1) ≤ length (now energy) ⌝ }
+    requires { ⌜ Holds bands (n / 4) (now coarse) (now energy) ⌝ }
     ensures { λ _. ⌜ now (coarse .exit) ≡ allAverages bands n (now (fine .entry)) ++ drop (bands * (n / 4)) (now (coarse .entry)) ⌝ }
     ensures { λ _. ⌜ now (energy .exit) ≡ allEnergies bands (n / 4) (allAverages bands n (now (fine .entry))) ++ drop (bands * (n / 4 + 1)) (now (energy .entry)) ⌝ }
 {
@@ -68,8 +68,7 @@ pub fn fill_index(
     values: &[f32],
 ) -> bool
     requires { ⌜ wideHop hop ≡ true ⌝ ∗ ⌜ length (now values) ≡ bands * length (now times) ⌝ }
-    requires { ⌜ bands * length (now times) ≤ length (now fine) ⌝ ∗ ⌜ bands * (length (now times) / 4) ≤ length (now coarse) ⌝ }
-    requires { ⌜ bands * (length (now times) + 1) ≤ length (now «fine_energy») ⌝ ∗ ⌜ bands * (length (now times) / 4 + 1) ≤ length (now «coarse_energy») ⌝ }
+    requires { ⌜ Holds bands (length (now times)) (now fine) (now «fine_energy») ⌝ ∗ ⌜ Holds bands (length (now times) / 4) (now coarse) (now «coarse_energy») ⌝ }
     ensures { λ r. ⌜ r ≡ acceptsReference hop bands (now (times .entry)) (now (values .entry)) ⌝ }
     ensures { λ r. ⌜ now (fine .exit) ≡ filled r (matcherOf hop bands (now (times .entry)) (now (values .entry)) .fine .values) (now (fine .entry)) ⌝ }
     ensures { λ r. ⌜ now (coarse .exit) ≡ filled r (matcherOf hop bands (now (times .entry)) (now (values .entry)) .coarse .values) (now (coarse .entry)) ⌝ }

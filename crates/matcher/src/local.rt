@@ -1,14 +1,13 @@
 // Local search: the best place within a range of offsets.
-ghost use Prim.Native.Nat.{_+_, _*_, _<_, _≤_};
+ghost use Prim.Native.Nat.{_+_, _*_, _≤_};
 ghost use lib.ListN.{length};
-ghost use mathlib.Core.Bool.{true};
 ghost use mathlib.Core.Path.{_≡_};
+ghost use Rattle.matcher_spec.specs.Energy.{Holds};
 ghost use Rattle.matcher_spec.specs.Candidates.{resultOf};
 ghost use Rattle.matcher_spec.specs.Index.{lentBands};
-ghost use Rattle.matcher_spec.specs.Centring.{wideHop};
-ghost use Rattle.matcher_spec.specs.Limits.{framesMost, bandsMost, candidatesMost};
-ghost use Rattle.matcher_spec.specs.Search.{FilledQuery, candidateIn, localFound, localSearch};
+ghost use Rattle.matcher_spec.specs.Search.{FilledQuery, candidateIn, localFound, localSearch, InRange, WorkRoom, QueryFits};
 ghost use Rattle.matcher_spec.specs.Features.{features};
+ghost use Rattle.matcher_spec.specs.Limits.{candidatesMost};
 use crate::candidate::best_candidate;
 use crate::query::fill_query;
 use matcher_bands::centring::radius;
@@ -40,9 +39,9 @@ pub fn local_search(
     work32: &mut [f32],
     work64: &mut [f64],
 ) -> MatchResult
-    requires { ⌜ wideHop (reference .«hop_ms») ≡ true ⌝ ∗ ⌜ 0 < reference .bands ⌝ ∗ ⌜ reference .bands ≤ bandsMost ⌝ ∗ ⌜ reference .frames ≤ framesMost ⌝ }
-    requires { ⌜ reference .bands * reference .frames ≤ length (now fine) ⌝ ∗ ⌜ reference .bands * (reference .frames + 1) ≤ length (now energy) ⌝ }
-    requires { ⌜ length (now values) ≡ bands * length (now times) ⌝ ∗ ⌜ 2 * (bands * length (now times)) ≤ length (now work32) ⌝ ∗ ⌜ 3 * (bands * (length (now times) + 1)) + reference .frames ≤ length (now work64) ⌝ }
+    requires { ⌜ InRange reference ⌝ }
+    requires { ⌜ Holds (reference .bands) (reference .frames) (now fine) (now energy) ⌝ }
+    requires { ⌜ length (now values) ≡ bands * length (now times) ⌝ ∗ ⌜ WorkRoom reference bands (length (now times)) (now work32) (now work64) ⌝ }
     ensures { λ r. ⌜ r ≡ resultOf (localSearch reference (lentBands (reference .bands) (reference .frames) (now (fine .entry)) (now (energy .entry))) (features bands (now (times .entry)) (now (values .entry))) lower upper) ⌝ }
     ensures { λ r. ⌜ r .count ≤ candidatesMost ⌝ }
 {
@@ -78,9 +77,9 @@ pub fn local_found(
     work32: &[f32],
     work64: &mut [f64],
 ) -> MatchResult
-    requires { ⌜ wideHop (reference .«hop_ms») ≡ true ⌝ ∗ ⌜ 0 < reference .bands ⌝ ∗ ⌜ reference .bands ≤ bandsMost ⌝ ∗ ⌜ reference .frames ≤ framesMost ⌝ }
-    requires { ⌜ reference .bands * reference .frames ≤ length (now fine) ⌝ ∗ ⌜ reference .bands * (reference .frames + 1) ≤ length (now energy) ⌝ }
-    requires { ⌜ 2 * (bands * length (now times)) ≤ length (now work32) ⌝ ∗ ⌜ 3 * (bands * (length (now times) + 1)) + reference .frames ≤ length (now work64) ⌝ }
+    requires { ⌜ InRange reference ⌝ }
+    requires { ⌜ Holds (reference .bands) (reference .frames) (now fine) (now energy) ⌝ }
+    requires { ⌜ WorkRoom reference bands (length (now times)) (now work32) (now work64) ⌝ }
     requires { ⌜ FilledQuery reference (features bands (now times) (now values)) filled (now work32) (now work64) ⌝ }
     ensures { λ r. ⌜ r ≡ resultOf (localSearch reference (lentBands (reference .bands) (reference .frames) (now (fine .entry)) (now (energy .entry))) (features bands (now (times .entry)) (now (values .entry))) lower upper) ⌝ }
     ensures { λ r. ⌜ r .count ≤ candidatesMost ⌝ }
@@ -117,8 +116,8 @@ fn local_candidates(
     work32: &[f32],
     work64: &mut [f64],
 ) -> MatchResult
-    requires { ⌜ reference .bands ≤ bandsMost ⌝ ∗ ⌜ 0 < n ⌝ ∗ ⌜ n ≤ reference .frames ⌝ ∗ ⌜ reference .frames ≤ framesMost ⌝ }
-    requires { ⌜ reference .bands * reference .frames ≤ length (now fine) ⌝ ∗ ⌜ reference .bands * (reference .frames + 1) ≤ length (now energy) ⌝ }
+    requires { ⌜ QueryFits reference n ⌝ }
+    requires { ⌜ Holds (reference .bands) (reference .frames) (now fine) (now energy) ⌝ }
     requires { ⌜ reference .bands * n ≤ length (now work32) ⌝ ∗ ⌜ reference .bands * (n + 1) + reference .frames ≤ length (now work64) ⌝ }
     ensures { λ r. ⌜ r ≡ resultOf (localFound reference (lentBands (reference .bands) (reference .frames) (now (fine .entry)) (now (energy .entry))) (lentBands (reference .bands) n (now (work32 .entry)) (now (work64 .entry))) start lower upper) ⌝ }
     ensures { λ _. ⌜ lentBands (reference .bands) n (now (work32 .entry)) (now (work64 .exit)) ≡ lentBands (reference .bands) n (now (work32 .entry)) (now (work64 .entry)) ⌝ }
@@ -162,8 +161,8 @@ fn query_candidate(
     work32: &[f32],
     work64: &mut [f64],
 ) -> Candidate
-    requires { ⌜ reference .bands ≤ bandsMost ⌝ ∗ ⌜ 0 < n ⌝ ∗ ⌜ low ≤ high ⌝ ∗ ⌜ high + n ≤ reference .frames ⌝ ∗ ⌜ reference .frames ≤ framesMost ⌝ }
-    requires { ⌜ reference .bands * reference .frames ≤ length (now fine) ⌝ ∗ ⌜ reference .bands * (reference .frames + 1) ≤ length (now energy) ⌝ }
+    requires { ⌜ QueryFits reference n ⌝ ∗ ⌜ low ≤ high ⌝ ∗ ⌜ high + n ≤ reference .frames ⌝ }
+    requires { ⌜ Holds (reference .bands) (reference .frames) (now fine) (now energy) ⌝ }
     requires { ⌜ reference .bands * n ≤ length (now work32) ⌝ ∗ ⌜ reference .bands * (n + 1) + reference .frames ≤ length (now work64) ⌝ }
     ensures { λ r. ⌜ r ≡ candidateIn reference (lentBands (reference .bands) (reference .frames) (now (fine .entry)) (now (energy .entry))) (lentBands (reference .bands) n (now (work32 .entry)) (now (work64 .entry))) start low high ⌝ }
     ensures { λ _. ⌜ lentBands (reference .bands) n (now (work32 .entry)) (now (work64 .exit)) ≡ lentBands (reference .bands) n (now (work32 .entry)) (now (work64 .entry)) ⌝ }

@@ -5,7 +5,7 @@ ghost use mathlib.Core.Bool.{true};
 ghost use mathlib.Core.Path.{_≡_};
 ghost use Rattle.matcher_spec.specs.Energy.{allEnergies};
 ghost use Rattle.matcher_spec.specs.Centring.{wideHop};
-ghost use Rattle.matcher_spec.specs.Search.{FilledQuery, queryValues, searchable};
+ghost use Rattle.matcher_spec.specs.Search.{FilledQuery, queryValues, searchable, InRange, WorkRoom};
 ghost use Rattle.matcher_spec.specs.Features.{features};
 use matcher_bands::centring::centre_bands;
 use matcher_bands::centring::radius;
@@ -26,8 +26,8 @@ pub fn fill_query(
     work32: &mut [f32],
     work64: &mut [f64],
 ) -> bool
-    requires { ⌜ wideHop (reference .«hop_ms») ≡ true ⌝ ∗ ⌜ 0 < reference .bands ⌝ }
-    requires { ⌜ length (now values) ≡ bands * length (now times) ⌝ ∗ ⌜ 2 * (bands * length (now times)) ≤ length (now work32) ⌝ ∗ ⌜ 3 * (bands * (length (now times) + 1)) + reference .frames ≤ length (now work64) ⌝ }
+    requires { ⌜ InRange reference ⌝ }
+    requires { ⌜ length (now values) ≡ bands * length (now times) ⌝ ∗ ⌜ WorkRoom reference bands (length (now times)) (now work32) (now work64) ⌝ }
     ensures { λ r. ⌜ FilledQuery reference (features bands (now (times .entry)) (now (values .entry))) r (now (work32 .exit)) (now (work64 .exit)) ⌝ }
 {
     if !is_searchable(reference, bands, times, values) {

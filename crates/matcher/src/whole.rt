@@ -1,16 +1,14 @@
 // Whole search: the candidates of the whole reference.
 ghost use Prim.Native.Nat.{ℕ, suc, _+_, _-_, _*_, _/_, _<_, _≤_};
 ghost use lib.ListN.{drop, getD, length, take};
-ghost use mathlib.Core.Bool.{true};
 ghost use mathlib.Core.List.{[], _∷_};
 ghost use mathlib.Core.Path.{_≡_};
 ghost use Rattle.matcher_spec.specs.Candidates.{listed, resultOf, sortInto, sorted};
-ghost use Rattle.matcher_spec.specs.Energy.{bandsOf, reduced};
-ghost use Rattle.matcher_spec.specs.Index.{lentBands, lentMatcher};
-ghost use Rattle.matcher_spec.specs.Centring.{wideHop};
-ghost use Rattle.matcher_spec.specs.Limits.{framesMost, bandsMost, candidatesMost};
-ghost use Rattle.matcher_spec.specs.Search.{FilledQuery, candidatesAt, coarseScores, separation, wholeFound, wholeSearch};
+ghost use Rattle.matcher_spec.specs.Energy.{bandsOf, reduced, Holds};
+ghost use Rattle.matcher_spec.specs.Index.{lentBands, lentMatcher, lent};
+ghost use Rattle.matcher_spec.specs.Search.{FilledQuery, candidatesAt, coarseScores, separation, wholeFound, wholeSearch, InRange, WorkRoom, QueryFits};
 ghost use Rattle.matcher_spec.specs.Features.{features};
+ghost use Rattle.matcher_spec.specs.Limits.{framesMost, candidatesMost};
 use crate::candidate::best_candidate;
 use crate::candidate::score_places;
 use crate::query::fill_query;
@@ -44,11 +42,11 @@ pub fn whole_search(
     work32: &mut [f32],
     work64: &mut [f64],
 ) -> MatchResult
-    requires { ⌜ wideHop (reference .«hop_ms») ≡ true ⌝ ∗ ⌜ 0 < reference .bands ⌝ ∗ ⌜ reference .bands ≤ bandsMost ⌝ ∗ ⌜ reference .frames ≤ framesMost ⌝ }
-    requires { ⌜ reference .bands * reference .frames ≤ length (now fine) ⌝ ∗ ⌜ reference .bands * (reference .frames + 1) ≤ length (now «fine_energy») ⌝ }
-    requires { ⌜ reference .bands * (reference .frames / 4) ≤ length (now coarse) ⌝ ∗ ⌜ reference .bands * (reference .frames / 4 + 1) ≤ length (now «coarse_energy») ⌝ }
-    requires { ⌜ length (now values) ≡ bands * length (now times) ⌝ ∗ ⌜ 2 * (bands * length (now times)) ≤ length (now work32) ⌝ ∗ ⌜ 3 * (bands * (length (now times) + 1)) + reference .frames ≤ length (now work64) ⌝ }
-    ensures { λ r. ⌜ r ≡ resultOf (wholeSearch (lentMatcher reference (now (fine .entry)) (now (coarse .entry)) (now («fine_energy» .entry)) (now («coarse_energy» .entry))) (features bands (now (times .entry)) (now (values .entry)))) ⌝ }
+    requires { ⌜ InRange reference ⌝ }
+    requires { ⌜ Holds (reference .bands) (reference .frames) (now fine) (now «fine_energy») ⌝ }
+    requires { ⌜ Holds (reference .bands) (reference .frames / 4) (now coarse) (now «coarse_energy») ⌝ }
+    requires { ⌜ length (now values) ≡ bands * length (now times) ⌝ ∗ ⌜ WorkRoom reference bands (length (now times)) (now work32) (now work64) ⌝ }
+    ensures { λ r. ⌜ r ≡ resultOf (wholeSearch (lentMatcher reference (lent (now (fine .entry)) (now (coarse .entry)) (now («fine_energy» .entry)) (now («coarse_energy» .entry)))) (features bands (now (times .entry)) (now (values .entry)))) ⌝ }
     ensures { λ r. ⌜ r .count ≤ candidatesMost ⌝ }
 {
     let filled = fill_query(reference, bands, times, values, work32, work64);
@@ -83,12 +81,12 @@ pub fn whole_found(
     work32: &mut [f32],
     work64: &mut [f64],
 ) -> MatchResult
-    requires { ⌜ wideHop (reference .«hop_ms») ≡ true ⌝ ∗ ⌜ 0 < reference .bands ⌝ ∗ ⌜ reference .bands ≤ bandsMost ⌝ ∗ ⌜ reference .frames ≤ framesMost ⌝ }
-    requires { ⌜ reference .bands * reference .frames ≤ length (now fine) ⌝ ∗ ⌜ reference .bands * (reference .frames + 1) ≤ length (now «fine_energy») ⌝ }
-    requires { ⌜ reference .bands * (reference .frames / 4) ≤ length (now coarse) ⌝ ∗ ⌜ reference .bands * (reference .frames / 4 + 1) ≤ length (now «coarse_energy») ⌝ }
-    requires { ⌜ 2 * (bands * length (now times)) ≤ length (now work32) ⌝ ∗ ⌜ 3 * (bands * (length (now times) + 1)) + reference .frames ≤ length (now work64) ⌝ }
+    requires { ⌜ InRange reference ⌝ }
+    requires { ⌜ Holds (reference .bands) (reference .frames) (now fine) (now «fine_energy») ⌝ }
+    requires { ⌜ Holds (reference .bands) (reference .frames / 4) (now coarse) (now «coarse_energy») ⌝ }
+    requires { ⌜ WorkRoom reference bands (length (now times)) (now work32) (now work64) ⌝ }
     requires { ⌜ FilledQuery reference (features bands (now times) (now values)) filled (now work32) (now work64) ⌝ }
-    ensures { λ r. ⌜ r ≡ resultOf (wholeSearch (lentMatcher reference (now (fine .entry)) (now (coarse .entry)) (now («fine_energy» .entry)) (now («coarse_energy» .entry))) (features bands (now (times .entry)) (now (values .entry)))) ⌝ }
+    ensures { λ r. ⌜ r ≡ resultOf (wholeSearch (lentMatcher reference (lent (now (fine .entry)) (now (coarse .entry)) (now («fine_energy» .entry)) (now («coarse_energy» .entry)))) (features bands (now (times .entry)) (now (values .entry)))) ⌝ }
     ensures { λ r. ⌜ r .count ≤ candidatesMost ⌝ }
 {
     if !filled {
@@ -122,11 +120,11 @@ fn whole_candidates(
     work32: &mut [f32],
     work64: &mut [f64],
 ) -> MatchResult
-    requires { ⌜ reference .bands ≤ bandsMost ⌝ ∗ ⌜ 0 < n ⌝ ∗ ⌜ n ≤ reference .frames ⌝ ∗ ⌜ reference .frames ≤ framesMost ⌝ }
-    requires { ⌜ reference .bands * reference .frames ≤ length (now fine) ⌝ ∗ ⌜ reference .bands * (reference .frames + 1) ≤ length (now «fine_energy») ⌝ }
-    requires { ⌜ reference .bands * (reference .frames / 4) ≤ length (now coarse) ⌝ ∗ ⌜ reference .bands * (reference .frames / 4 + 1) ≤ length (now «coarse_energy») ⌝ }
+    requires { ⌜ QueryFits reference n ⌝ }
+    requires { ⌜ Holds (reference .bands) (reference .frames) (now fine) (now «fine_energy») ⌝ }
+    requires { ⌜ Holds (reference .bands) (reference .frames / 4) (now coarse) (now «coarse_energy») ⌝ }
     requires { ⌜ 2 * (reference .bands * n) ≤ length (now work32) ⌝ ∗ ⌜ 2 * (reference .bands * (n + 1)) + reference .frames ≤ length (now work64) ⌝ }
-    ensures { λ r. ⌜ r ≡ resultOf (wholeFound (lentMatcher reference (now (fine .entry)) (now (coarse .entry)) (now («fine_energy» .entry)) (now («coarse_energy» .entry))) (lentBands (reference .bands) n (now (work32 .entry)) (now (work64 .entry))) start) ⌝ }
+    ensures { λ r. ⌜ r ≡ resultOf (wholeFound (lentMatcher reference (lent (now (fine .entry)) (now (coarse .entry)) (now («fine_energy» .entry)) (now («coarse_energy» .entry)))) (lentBands (reference .bands) n (now (work32 .entry)) (now (work64 .entry))) start) ⌝ }
     ensures { λ r. ⌜ r .count ≤ candidatesMost ⌝ }
 {
     let bands = reference.bands;
@@ -163,8 +161,8 @@ fn averaged_scores(
     work32: &mut [f32],
     work64: &mut [f64],
 )
-    requires { ⌜ reference .bands ≤ bandsMost ⌝ ∗ ⌜ 0 < n ⌝ ∗ ⌜ n ≤ reference .frames ⌝ ∗ ⌜ reference .frames ≤ framesMost ⌝ }
-    requires { ⌜ reference .bands * (reference .frames / 4) ≤ length (now coarse) ⌝ ∗ ⌜ reference .bands * (reference .frames / 4 + 1) ≤ length (now energy) ⌝ }
+    requires { ⌜ QueryFits reference n ⌝ }
+    requires { ⌜ Holds (reference .bands) (reference .frames / 4) (now coarse) (now energy) ⌝ }
     requires { ⌜ 2 * (reference .bands * n) ≤ length (now work32) ⌝ ∗ ⌜ 2 * (reference .bands * (n + 1)) + reference .frames ≤ length (now work64) ⌝ }
     ensures { λ _. ⌜ take (reference .frames / 4 - n / 4 + 1) (drop (reference .bands * (n + 1) + reference .bands * (n / 4 + 1)) (now (work64 .exit))) ≡ coarseScores (reference .bands) (lentBands (reference .bands) (reference .frames / 4) (now (coarse .entry)) (now (energy .entry))) (lentBands (reference .bands) n (now (work32 .entry)) (now (work64 .entry))) ⌝ }
     ensures { λ _. ⌜ lentBands (reference .bands) n (now (work32 .exit)) (now (work64 .exit)) ≡ lentBands (reference .bands) n (now (work32 .entry)) (now (work64 .entry)) ⌝ }
@@ -200,8 +198,8 @@ fn score_averages(
     from: usize,
     at: usize,
 )
-    requires { ⌜ reference .bands ≤ bandsMost ⌝ ∗ ⌜ 0 < n ⌝ ∗ ⌜ n ≤ reference .frames ⌝ ∗ ⌜ reference .frames ≤ framesMost ⌝ }
-    requires { ⌜ reference .bands * (reference .frames / 4) ≤ length (now coarse) ⌝ ∗ ⌜ reference .bands * (reference .frames / 4 + 1) ≤ length (now energy) ⌝ }
+    requires { ⌜ QueryFits reference n ⌝ }
+    requires { ⌜ Holds (reference .bands) (reference .frames / 4) (now coarse) (now energy) ⌝ }
     requires { ⌜ reference .bands * n ≤ from ⌝ ∗ ⌜ from + reference .bands * (n / 4) ≤ length (now query) ⌝ ∗ ⌜ at + reference .bands * (n / 4 + 1) + reference .frames ≤ length (now work) ⌝ }
     ensures { λ _. ⌜ take (reference .frames / 4 - n / 4 + 1) (drop (at + reference .bands * (n / 4 + 1)) (now (work .exit))) ≡ coarseScores (reference .bands) (bandsOf (reference .frames / 4) (now (coarse .entry)) (now (energy .entry))) (bandsOf n (take (reference .bands * n) (now (query .entry))) []) ⌝ }
     ensures { λ _. ⌜ take from (now (query .exit)) ≡ take from (now (query .entry)) ⌝ }
@@ -264,9 +262,9 @@ fn candidates_around(
     at: usize,
     picked: Picked,
 ) -> MatchResult
-    requires { ⌜ reference .bands ≤ bandsMost ⌝ ∗ ⌜ n ≤ reference .frames ⌝ ∗ ⌜ reference .frames ≤ framesMost ⌝ ∗ ⌜ picked .count ≤ candidatesMost ⌝ }
-    requires { ⌜ reference .bands * reference .frames ≤ length (now fine) ⌝ ∗ ⌜ reference .bands * (reference .frames + 1) ≤ length (now energy) ⌝ }
-    requires { ⌜ reference .bands * n ≤ length (now query) ⌝ ∗ ⌜ reference .bands * (n + 1) ≤ at ⌝ ∗ ⌜ at + reference .frames ≤ length (now work) ⌝ ∗ ⌜ 0 < n ⌝ }
+    requires { ⌜ QueryFits reference n ⌝ ∗ ⌜ picked .count ≤ candidatesMost ⌝ }
+    requires { ⌜ Holds (reference .bands) (reference .frames) (now fine) (now energy) ⌝ }
+    requires { ⌜ reference .bands * n ≤ length (now query) ⌝ ∗ ⌜ reference .bands * (n + 1) ≤ at ⌝ ∗ ⌜ at + reference .frames ≤ length (now work) ⌝ }
     requires { ⌜ ((k : ℕ) → getD (picked .at) k 0 ≤ suc framesMost) ⌝ }
     ensures { λ r. ⌜ r .count ≤ candidatesMost ⌝ }
     ensures { λ r. ⌜ r ≡ resultOf (sorted (candidatesAt reference (bandsOf (reference .frames) (now (fine .entry)) (now (energy .entry))) (bandsOf n (now (query .entry)) (take (reference .bands * (n + 1)) (now (work .entry)))) start (take (picked .count) (picked .at)))) ⌝ }
@@ -308,9 +306,9 @@ fn with_candidate(
     peak: usize,
 ) -> MatchResult
     requires { ⌜ found .count < candidatesMost ⌝ ∗ ⌜ found ≡ resultOf (listed found) ⌝ }
-    requires { ⌜ peak ≤ suc framesMost ⌝ ∗ ⌜ reference .bands ≤ bandsMost ⌝ ∗ ⌜ n ≤ reference .frames ⌝ ∗ ⌜ reference .frames ≤ framesMost ⌝ }
-    requires { ⌜ reference .bands * reference .frames ≤ length (now fine) ⌝ ∗ ⌜ reference .bands * (reference .frames + 1) ≤ length (now energy) ⌝ }
-    requires { ⌜ reference .bands * n ≤ length (now query) ⌝ ∗ ⌜ reference .bands * (n + 1) ≤ at ⌝ ∗ ⌜ at + reference .frames ≤ length (now work) ⌝ ∗ ⌜ 0 < n ⌝ }
+    requires { ⌜ peak ≤ suc framesMost ⌝ ∗ ⌜ QueryFits reference n ⌝ }
+    requires { ⌜ Holds (reference .bands) (reference .frames) (now fine) (now energy) ⌝ }
+    requires { ⌜ reference .bands * n ≤ length (now query) ⌝ ∗ ⌜ reference .bands * (n + 1) ≤ at ⌝ ∗ ⌜ at + reference .frames ≤ length (now work) ⌝ }
     ensures { λ r. ⌜ r .count ≤ found .count + 1 ⌝ }
     ensures { λ r. ⌜ r ≡ resultOf (sortInto (listed found) (candidatesAt reference (bandsOf (reference .frames) (now (fine .entry)) (now (energy .entry))) (bandsOf n (now (query .entry)) (take (reference .bands * (n + 1)) (now (work .entry)))) start (peak ∷ []))) ⌝ }
     ensures { λ _. ⌜ take at (now (work .exit)) ≡ take at (now (work .entry)) ⌝ }

@@ -2,8 +2,8 @@
 use Prim.Native.Nat.{ℕ, _-_}
 use mathlib.Core.List.{List, _++_}
 use lib.ListN.{length, replicate}
-use Rattle.matcher_spec.specs.Limits.{candidatesMost}
 use Rattle.matcher_picks.specs.declared.peaks.Picked.{Picked}
+use Rattle.matcher_spec.specs.Limits.{candidatesMost}
 
 -- The places in an array of 8 with a count; zeros stand behind the last.
 abbrev pub pickedOf : List ℕ → Picked

@@ -5,8 +5,8 @@ ghost use lib.ListN.{getD, length};
 ghost use mathlib.Core.Bool.{cond};
 ghost use mathlib.Core.Path.{_≡_};
 ghost use Rattle.matcher_spec.specs.Peaks.{apart, bestFree, better, firstMaximum, nearTo, peaks};
-ghost use Rattle.matcher_spec.specs.Limits.{candidatesMost};
 ghost use Rattle.matcher_picks.specs.Picks.{pickedOf};
+ghost use Rattle.matcher_spec.specs.Limits.{candidatesMost};
 use matcher_spec::limits::CANDIDATES_MOST;
 
 // A place and the score there.

@@ -8,7 +8,7 @@ use lib.Ieee.{Float, binary64, ofBits}
 use Rattle.numbers_spec.specs.Arithmetic.{_⊕_, _⊖_, _⊗_, zero⁺, real}
 use Rattle.matcher_spec.specs.Candidates.{resultOf}
 use Rattle.matcher_spec.specs.declared.types.MatchResult.{MatchResult}
-use Rattle.matcher_spec.specs.Index.{acceptsReference, filled, lentBands, lentMatcher, matcherOf}
+use Rattle.matcher_spec.specs.Index.{acceptsReference, filled, lent, lentBands, lentMatcher, matcherOf}
 use Rattle.matcher_spec.specs.Search.{localSearch, wholeSearch}
 use Rattle.matcher_spec.specs.Features.{features}
 use Rattle.matcher_spec.specs.declared.types.Reference.{Reference}
@@ -37,7 +37,7 @@ offsetOf c = real (c .from) ⊗ c .hop ⊖ begin
 
 module _ (c : Case) (fine coarse fineEnergy coarseEnergy times values : List Float) where
   unfoldable pub wholeOf : MatchResult
-  wholeOf = resultOf (wholeSearch (lentMatcher (referenceOf c) fine coarse fineEnergy coarseEnergy) (features (c .bands) times values))
+  wholeOf = resultOf (wholeSearch (lentMatcher (referenceOf c) (lent fine coarse fineEnergy coarseEnergy)) (features (c .bands) times values))
 
   -- `reach` to either side of that offset
   unfoldable pub localOf : MatchResult

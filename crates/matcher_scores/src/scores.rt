@@ -4,7 +4,7 @@ ghost use Prim.Native.Nat.{ℕ, _+_, _*_, _<_, _≤_};
 ghost use lib.Ieee.{nan};
 ghost use lib.ListN.{getD, length};
 ghost use mathlib.Core.Path.{_≡_};
-ghost use Rattle.matcher_spec.specs.Energy.{bandsOf};
+ghost use Rattle.matcher_spec.specs.Energy.{bandsOf, Holds};
 ghost use Rattle.numbers_spec.specs.Rows.{sumTo, tabulate};
 ghost use Rattle.matcher_scores.specs.Tiles.{block};
 ghost use Rattle.matcher_spec.specs.Scores.{bandTerm, correlations, partAt, partTerm, scorePart, termAt, varianceFloor};
@@ -32,7 +32,7 @@ pub fn correlations(
     bands: usize,
     low: usize,
 )
-    requires { ⌜ bands * frames ≤ length (now reference) ⌝ ∗ ⌜ bands * (frames + 1) ≤ length (now energy) ⌝ }
+    requires { ⌜ Holds bands frames (now reference) (now energy) ⌝ }
     requires { ⌜ bands * count ≤ length (now query) ⌝ ∗ ⌜ bands ≤ length (now whole) ⌝ }
     requires { ⌜ low + length (now scores) + count ≤ frames + 1 ⌝ }
     ensures { λ _. ⌜ now (scores .exit) ≡ correlations bands (bandsOf frames (now (reference .entry)) (now (energy .entry))) count (now (query .entry)) (now (whole .entry)) low (length (now (scores .entry))) ⌝ }
@@ -64,7 +64,7 @@ fn sum_bands(
     bands: usize,
     low: usize,
 )
-    requires { ⌜ bands * frames ≤ length (now reference) ⌝ ∗ ⌜ bands * (frames + 1) ≤ length (now energy) ⌝ }
+    requires { ⌜ Holds bands frames (now reference) (now energy) ⌝ }
     requires { ⌜ bands * count ≤ length (now query) ⌝ ∗ ⌜ bands ≤ length (now whole) ⌝ }
     requires { ⌜ low + length (now scores) + count ≤ frames + 1 ⌝ }
     ensures { λ _. ⌜ now (scores .exit) ≡ tabulate (λ (i : ℕ). sumTo (termAt (bandsOf frames (now (reference .entry)) (now (energy .entry))) count (now (query .entry)) (now (whole .entry)) (low + i)) bands) (length (now (scores .entry))) ⌝ }
@@ -210,8 +210,8 @@ pub fn score_part(
     low: usize,
     high: usize,
 ) -> f64
-    requires { ⌜ bands * frames ≤ length (now reference) ⌝ ∗ ⌜ bands * (frames + 1) ≤ length (now energy) ⌝ }
-    requires { ⌜ bands * count ≤ length (now query) ⌝ ∗ ⌜ bands * (count + 1) ≤ length (now «query_energy») ⌝ }
+    requires { ⌜ Holds bands frames (now reference) (now energy) ⌝ }
+    requires { ⌜ Holds bands count (now query) (now «query_energy») ⌝ }
     requires { ⌜ low ≤ high ⌝ ∗ ⌜ high ≤ count ⌝ ∗ ⌜ start + count ≤ frames ⌝ }
     ensures { λ r. ⌜ r ≡ scorePart bands (bandsOf frames (now (reference .entry)) (now (energy .entry))) (bandsOf count (now (query .entry)) (now («query_energy» .entry))) start low high ⌝ }
 {

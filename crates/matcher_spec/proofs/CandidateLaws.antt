@@ -13,11 +13,11 @@ use mir.Val.{Val}
 use denote.Laws.{Is}
 use denote.Struct.Declared.{row}
 use Rattle.numbers_spec.specs.Arithmetic.{_⊖_, absolute}
-use Rattle.matcher_spec.specs.Limits.{candidatesMost}
 use Rattle.matcher_spec.specs.Candidates.{insert, crowded, independentFrom, independent, blank, resultOf, listed, marginOf, apartMs}
 use Rattle.matcher_spec.specs.declared.types.Candidate.{Candidate}
 use Rattle.matcher_spec.specs.declared.types.MatchResult.{MatchResult}
 use Rattle.matcher_spec.proofs.types.MatchResult.{the-type}
+use Rattle.matcher_spec.specs.Limits.{candidatesMost}
 
 -- ---- what owning a result tells: its array has 8 elements
 pub eight : (r : MatchResult) (vs : List Val) → Is (row the-type) r vs → length (r .candidates) ≡ 8

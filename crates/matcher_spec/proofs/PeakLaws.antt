@@ -14,9 +14,9 @@ use borrow.Author.Tests.{ltb-false, eqb-true, eqb-false, eq-eqb, ne-eqb}
 use Rattle.numbers_spec.specs.Values.{Number}
 use Rattle.numbers_spec.proofs.Order.{le-reflexive, le-transitive, lt→le, le→not-lt, not-lt→le, not-le→lt}
 use Rattle.matcher_spec.specs.Peaks.{maximumTo, apart, nearTo, better, freeTo, bestFree, peaksFrom, peaks}
-use Rattle.matcher_spec.specs.Limits.{candidatesMost}
 use Rattle.matcher_spec.specs.PeakLaws.{Numbers, FirstMaximum, Free, FreeIsApart, FirstFree, PeaksFew, PeaksWithin, PeaksApart, PeakIsBest, PeakFirstLargest, PeaksExhaust}
 use Rattle.matcher_spec.proofs.Cases.{cond-elim, is-T, is-not-T, never, or-false-l, or-false-r}
+use Rattle.matcher_spec.specs.Limits.{candidatesMost}
 
 -- x ≤ y < z
 le-lt : (x y z : Float) → Number x → Number z → T (le x y) → T (lt y z) → T (lt x z)

@@ -21,7 +21,6 @@ use Rattle.matcher_spec.specs.Candidates.{insert, sortInto, sorted, crow
 use Rattle.matcher_spec.specs.Timeline.{accepts, regular, validValues}
 use Rattle.matcher_spec.specs.Centring.{radius}
 use Rattle.matcher_spec.specs.Energy.{Bands}
-use Rattle.matcher_spec.specs.Limits.{candidatesMost}
 use Rattle.matcher_spec.specs.Peaks.{peaks}
 use Rattle.matcher_spec.specs.Index.{Matcher}
 use Rattle.matcher_spec.specs.Search.{searchable, queryOf, queryStart, candidateIn, rangeLow, rangeHigh, candidatesAt, place, localLow, localHigh, localFound, coarseScores, separation, wholeFound, wholeSearch, localSearch}
@@ -31,6 +30,7 @@ use Rattle.matcher_spec.specs.declared.types.Candidate.{Candidate}
 use Rattle.matcher_spec.specs.ResultLaws.{All, Pairs, Scored, NoHigher, Far, From, KeptFrom, SortedByScore, BestFirst, Apart750, AtMostEight, WholeApart, AtMostOne, Searchable, SearchableGives, OfPlaces, WholeFinds, LocalFinds, WholeSorted, MarginLaws}
 use Rattle.matcher_spec.proofs.PeakLaws.{peaks-few}
 use Rattle.matcher_spec.proofs.Cases.{cond-elim, is-T, is-not-T, or-false-l, or-false-r, and-true-l, and-true-r}
+use Rattle.matcher_spec.specs.Limits.{candidatesMost}
 
 -- ---- what holds of every candidate, and of each and every later one, element by element
 data Every (P : Candidate → Type 0) : List Candidate → Type 0 where

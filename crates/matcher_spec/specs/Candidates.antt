@@ -5,9 +5,9 @@ use mathlib.Core.List.{List, [], _∷_, _++_}
 use lib.ListN.{length, take, replicate}
 use lib.Ieee.{Float, binary64, lt, ofBits}
 use Rattle.numbers_spec.specs.Arithmetic.{_⊖_, zero⁺, absolute}
-use Rattle.matcher_spec.specs.Limits.{candidatesMost}
 use Rattle.matcher_spec.specs.declared.types.Candidate.{Candidate}
 use Rattle.matcher_spec.specs.declared.types.MatchResult.{MatchResult}
+use Rattle.matcher_spec.specs.Limits.{candidatesMost}
 
 -- ---- stable order, highest score first
 -- c before the first that scores lower: after those that score the same.

@@ -1,5 +1,5 @@
 -- Bands with their energies, and bands averaged by fours (matcher.rs, `Bands`). Definitions only.
-use Prim.Native.Nat.{ℕ, suc, _+_, _*_, _/_}
+use Prim.Native.Nat.{ℕ, suc, _+_, _*_, _/_, _≤_}
 use mathlib.Core.List.{List}
 use lib.ListN.{length, getD}
 use lib.Ieee.{Float, nan, binary32, add, div, ofBits}
@@ -22,6 +22,11 @@ pub record Bands : Type 0 where
 
 abbrev pub bandsOf : ℕ → List Float → List Float → Bands
 bandsOf n v e = record { count = n; values = v; energy = e }
+
+-- Two lists have room for bands with n values each: for the values, and for the energies of each.
+pub record Holds (bands n : ℕ) (values energy : List Float) : Type 0 where
+  pub value-room : bands * n ≤ length values
+  pub energy-room : bands * (n + 1) ≤ length energy
 
 -- Each band's energies, of bands with n values each.
 abbrev pub allEnergies : ℕ → ℕ → List Float → List Float

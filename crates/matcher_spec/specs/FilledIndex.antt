@@ -5,7 +5,7 @@ use mathlib.Core.List.{List}
 use mathlib.Core.Path.{_≡_}
 use lib.ListN.{length}
 use lib.Ieee.{Float}
-use Rattle.matcher_spec.specs.Index.{Matcher, matcherOf, filled, lentMatcher}
+use Rattle.matcher_spec.specs.Index.{Matcher, matcherOf, filled, lent, lentMatcher}
 use Rattle.matcher_spec.specs.Search.{wholeSearch, localSearch}
 use Rattle.matcher_spec.specs.Features.{Features}
 
@@ -19,7 +19,7 @@ pub record Sized (m : Matcher) : Type 0 where
 -- The matcher that the buffers hold after opening, where they held `old` before.
 abbrev pub opened : Matcher → List Float → List Float → List Float → List Float → Matcher
 opened m old₁ old₂ old₃ old₄ =
-    lentMatcher (m .reference) (filled true (m .fine .values) old₁) (filled true (m .coarse .values) old₂) (filled true (m .fine .energy) old₃) (filled true (m .coarse .energy) old₄)
+    lentMatcher (m .reference) (lent (filled true (m .fine .values) old₁) (filled true (m .coarse .values) old₂) (filled true (m .fine .energy) old₃) (filled true (m .coarse .energy) old₄))
 
 -- Of every reference whose rows are as long as its timeline:
 pub record Filled (m : Matcher) : Type 0 where

@@ -11,6 +11,16 @@ use Rattle.matcher_spec.specs.Centring.{radius, centred}
 use Rattle.matcher_spec.specs.Energy.{Bands, bandsOf, withEnergies, reduced, reduction}
 use Rattle.matcher_spec.specs.declared.types.Reference.{Reference}
 
+-- The four buffers of the index, as they are lent.
+pub record Index : Type 0 where
+  pub fine : List Float
+  pub coarse : List Float
+  pub fineEnergy : List Float
+  pub coarseEnergy : List Float
+
+abbrev pub lent : List Float → List Float → List Float → List Float → Index
+lent fine coarse fineEnergy coarseEnergy = record { fine = fine; coarse = coarse; fineEnergy = fineEnergy; coarseEnergy = coarseEnergy }
+
 -- The matcher: bands, frames, start and hop of the reference, its bands as they are and averaged by fours.
 pub record Matcher : Type 0 where
   pub reference : Reference
@@ -39,13 +49,14 @@ matcherOf hop bands times values =
 abbrev pub filled : Bool → List Float → List Float → List Float
 filled accepted part old = cond accepted (part ++ drop (length part) old) old
 
--- The matcher that four lent buffers hold. A longer tail is no part of it.
+-- The bands that two lent buffers hold. A longer tail is no part of them.
 abbrev pub lentBands : ℕ → ℕ → List Float → List Float → Bands
 lentBands bands n values energy = bandsOf n (take (bands * n) values) (take (bands * suc n) energy)
 
-abbrev pub lentMatcher : Reference → List Float → List Float → List Float → List Float → Matcher
-lentMatcher x fine coarse fineEnergy coarseEnergy = record {
+-- The matcher that a lent index holds.
+abbrev pub lentMatcher : Reference → Index → Matcher
+lentMatcher x i = record {
   reference = x;
-  fine = lentBands (x .bands) (x .frames) fine fineEnergy;
-  coarse = lentBands (x .bands) (x .frames / reduction) coarse coarseEnergy;
+  fine = lentBands (x .bands) (x .frames) (i .fine) (i .fineEnergy);
+  coarse = lentBands (x .bands) (x .frames / reduction) (i .coarse) (i .coarseEnergy);
 }

@@ -8,8 +8,8 @@ use lib.ListN.{length, getD, take}
 use lib.Ieee.{Float, nan, lt, le}
 use Rattle.numbers_spec.specs.Values.{Number}
 use Rattle.matcher_spec.specs.Peaks.{firstMaximum, apart, nearTo, bestFree, peaks}
-use Rattle.matcher_spec.specs.Limits.{candidatesMost}
 use Rattle.numbers_spec.specs.Rows.{Every}
+use Rattle.matcher_spec.specs.Limits.{candidatesMost}
 
 -- None of the scores is a NaN.
 abbrev pub Numbers : List Float → Type 0

@@ -12,13 +12,13 @@ use Rattle.numbers_spec.specs.Values.{Number, NotNegative}
 use Rattle.matcher_spec.specs.Timeline.{regular, validValues}
 use Rattle.matcher_spec.specs.Centring.{radius}
 use Rattle.matcher_spec.specs.Energy.{Bands}
-use Rattle.matcher_spec.specs.Limits.{candidatesMost}
 use Rattle.matcher_spec.specs.Candidates.{sorted, apartMs, independent, blank, marginOf}
 use Rattle.matcher_spec.specs.Index.{Matcher}
 use Rattle.matcher_spec.specs.Search.{searchable, queryOf, queryStart, candidateIn, wholeSearch, localSearch}
 use Rattle.matcher_spec.specs.Features.{Features}
 use Rattle.matcher_spec.specs.declared.types.Reference.{Reference}
 use Rattle.matcher_spec.specs.declared.types.Candidate.{Candidate}
+use Rattle.matcher_spec.specs.Limits.{candidatesMost}
 
 -- ---- words
 -- P holds of every candidate of the list.

@@ -1,5 +1,5 @@
 -- Whole and local search (document 01, Matcher; matcher.rs, `match_query`). Definitions only.
-use Prim.Native.Nat.{ℕ, _+_, _-_, _*_, _/_, min, max}
+use Prim.Native.Nat.{ℕ, _+_, _-_, _*_, _/_, _<_, _≤_, min, max}
 use mathlib.Core.Bool.{Bool, true, cond, _&&_}
 use mathlib.Core.List.{List, [], _∷_}
 use mathlib.Core.Path.{_≡_}
@@ -12,7 +12,7 @@ use Rattle.numbers_spec.specs.Logarithm.{half}
 use Rattle.numbers_spec.specs.Whole.{wholeAbove, wholeBelow}
 use Rattle.numbers_spec.specs.Rows.{rows, row}
 use Rattle.matcher_spec.specs.Timeline.{accepts, validValues}
-use Rattle.matcher_spec.specs.Centring.{radius, centred, kept}
+use Rattle.matcher_spec.specs.Centring.{radius, centred, kept, wideHop}
 use Rattle.matcher_spec.specs.Energy.{Bands, withEnergies, reduced, reduction, wholeEnergies}
 use Rattle.matcher_spec.specs.Scores.{correlations, scorePart}
 use Rattle.matcher_spec.specs.Peaks.{firstMaximum, peaks}
@@ -21,6 +21,7 @@ use Rattle.matcher_spec.specs.Index.{Matcher, lentBands}
 use Rattle.matcher_spec.specs.declared.types.Reference.{Reference}
 use Rattle.matcher_spec.specs.declared.types.Candidate.{Candidate}
 use Rattle.matcher_spec.specs.Features.{Features}
+use Rattle.matcher_spec.specs.Limits.{framesMost, bandsMost}
 
 -- ---- the window
 -- So many centred frames are too few.
@@ -160,6 +161,26 @@ unfoldable pub localSearch : Reference → Bands → Features → Float → Floa
 localSearch x fine w lower upper =
     let r = radius (x .«hop_ms») in
     cond (searchable x w) (localFound x fine (queryOf r w) (queryStart r w) lower upper) []
+
+-- ---- what a search asks of the sizes
+-- A reference within the limits, with a hop of at least 1 and at least one band.
+pub record InRange (x : Reference) : Type 0 where
+  pub hop : wideHop (x .«hop_ms») ≡ true
+  pub some : 0 < x .bands
+  pub few : x .bands ≤ bandsMost
+  pub short : x .frames ≤ framesMost
+
+-- Working buffers for a window: twice its values; three times its energies, and a score for each frame of the reference.
+pub record WorkRoom (x : Reference) (bands frames : ℕ) (work32 work64 : List Float) : Type 0 where
+  pub work32-room : 2 * (bands * frames) ≤ length work32
+  pub work64-room : 3 * (bands * (frames + 1)) + x .frames ≤ length work64
+
+-- A query of n frames that has a place in a reference within the limits.
+pub record QueryFits (x : Reference) (n : ℕ) : Type 0 where
+  pub few : x .bands ≤ bandsMost
+  pub short : x .frames ≤ framesMost
+  pub some : 0 < n
+  pub within : n ≤ x .frames
 
 -- ---- a query that is filled once for several searches
 -- The window's query stands at the fronts of two working buffers: its values in one, its energies in the other.

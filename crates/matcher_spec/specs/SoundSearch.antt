@@ -10,7 +10,6 @@ use Rattle.numbers_spec.specs.Values.{Between, Within}
 use Rattle.numbers_spec.specs.Rows.{row, Every, F32}
 use Rattle.matcher_spec.specs.Centring.{radius}
 use Rattle.matcher_spec.specs.Energy.{Bands, reduced}
-use Rattle.matcher_spec.specs.Limits.{candidatesMost, hopLeast, hopMost, framesMost, windowMost, bandsMost, farthest}
 use Rattle.matcher_spec.specs.Index.{acceptsReference, matcherOf}
 use Rattle.matcher_spec.specs.Search.{queryOf, wholeSearch, localSearch}
 use Rattle.matcher_spec.specs.Features.{Features}
@@ -18,6 +17,7 @@ use Rattle.matcher_spec.specs.declared.types.Candidate.{Candidate}
 use Rattle.matcher_spec.specs.ResultLaws.{All, Pairs, NoHigher, Far, Searchable}
 use Rattle.matcher_spec.specs.ScoreBounds.{NormalRadicands}
 use Rattle.matcher_spec.specs.CandidateBounds.{SoundCandidate, ModestCandidate}
+use Rattle.matcher_spec.specs.Limits.{hopLeast, hopMost, framesMost, windowMost, bandsMost, candidatesMost, farthest}
 
 -- A reference that is not refused and not rejected: a hop from 1 to 1,000, 64 bands and 65,535 frames at most, frames × bands values, which are f32, an accepted timeline and values, and a start within ±10 ^ 12.
 pub record GoodReference (hop : Float) (bands : ℕ) (times values : List Float) : Type 0 where

@@ -13,7 +13,7 @@ fill-index-requires : tie.Need-fill-index-requires
 fill-index-requires c κs =
     let p = c .before .before .before .before in
     let f = fillable _ _ _ _ _ _ _ _ (passed (p .before .fits-fill .ensures) (p .if1 .left)) in
-    (f .reference .wide, (f .whole, (f .fines .all, (f .coarses .all, (f .fines .sums, f .coarses .sums)))))
+    (f .reference .wide, (f .whole, (record { value-room = f .fines .all; energy-room = f .fines .sums }, record { value-room = f .coarses .all; energy-room = f .coarses .sums })))
 
 returns-2 : tie.Need-returns-2
 unfolding fillAnswer filledBuffers

@@ -13,7 +13,7 @@ local-search-requires c κs =
     let r = room _ _ _ _ _ _ _ _ _ (passed (p .before .fits-local .ensures) (p .if1 .left)) in
     let l = r .reference in
     let w = r .window in
-    (l .wide, (l .some, (l .most, (l .short, (r .index .all, (r .index .sums, (w .whole, (w .first, w .second))))))))
+    (record { hop = l .wide; some = l .some; few = l .most; short = l .short }, (record { value-room = r .index .all; energy-room = r .index .sums }, (w .whole, record { work32-room = w .first; work64-room = w .second })))
 
 write-candidates-requires : tie.Need-write-candidates-requires
 write-candidates-requires c κs =

@@ -29,7 +29,7 @@ whole-search-requires c κs =
     let h = held _ _ _ _ (passed (q .before .fits-bands .ensures) (q .if2 .left)) in
     let l = r .reference in
     let w = r .window in
-    (l .wide, (l .some, (l .most, (l .short, (r .index .all, (r .index .sums, (h .all, (h .sums, (w .whole, (w .first, w .second))))))))))
+    (record { hop = l .wide; some = l .some; few = l .most; short = l .short }, (record { value-room = r .index .all; energy-room = r .index .sums }, (record { value-room = h .all; energy-room = h .sums }, (w .whole, record { work32-room = w .first; work64-room = w .second }))))
 
 write-candidates-requires : tie.Need-write-candidates-requires
 write-candidates-requires c κs =

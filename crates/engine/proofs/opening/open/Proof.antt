@@ -3,7 +3,7 @@ use mathlib.Core.Path.{sym, _∙_}
 use borrow.Author.Needs.{needs}
 use borrow.Author.Tests.{not-true, not-false}
 use Rattle.matcher_spec.specs.Features.{features}
-use Rattle.engine_spec.specs.Lent.{lent}
+use Rattle.matcher_spec.specs.Index.{lent}
 use Rattle.engine_spec.proofs.Contract.{guaranteed}
 use Rattle.engine.proofs.OpenLaws.{open-room, refusal-tested, opening-refused, opening-answered, index-kept, index-filled, accepted-frames, fresh-with, fresh-without}
 use Rattle.engine.proofs.opening.open.Statement.{statement}
@@ -27,7 +27,7 @@ fill-index-requires c κs =
     let x = lent (a .fine .now) (a .coarse .now) (a .fine-energy .now) (a .coarse-energy .now) in
     let f = features (a .bands) (a .times .now) (a .values .now) in
     let k = open-room (a .configuration) (a .hop) f x (refusal-tested (a .configuration) (a .hop) f x (asked .opening-refusal .ensures) (c .before .before .before .before .before .is-refusal .ensures) (c .before .before .before .before .if1 .left)) in
-    (k .wide, (k .values, (k .fine, (k .coarse, (k .fine-energy, k .coarse-energy)))))
+    (k .wide, (k .values, (record { value-room = k .fine; energy-room = k .fine-energy }, record { value-room = k .coarse; energy-room = k .coarse-energy })))
 
 returns-2 : tie.Need-returns-2
 returns-2 c =

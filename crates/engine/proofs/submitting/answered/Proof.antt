@@ -9,7 +9,8 @@ use Rattle.engine_spec.specs.Publishing.{decide}
 use Rattle.engine_spec.specs.Locking as locking
 use Rattle.engine_spec.specs.Submitting.{computedFrom, decisionOn, lockFrom, reachedBy}
 use Rattle.engine_spec.specs.declared.types.Lock.{Lock}
-use Rattle.engine_spec.specs.Lent.{lent, window, handed}
+use Rattle.matcher_spec.specs.Index.{lent}
+use Rattle.engine_spec.specs.Lent.{window, handed}
 use Rattle.engine_decision.specs.Decided.{decisionIn}
 use Rattle.engine.proofs.AnswerLaws.{answers-again, answers-computed}
 use Rattle.engine.proofs.submitting.answered.Statement.{statement}

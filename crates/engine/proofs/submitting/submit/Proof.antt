@@ -5,7 +5,8 @@ use borrow.Author.Needs.{needs}
 use lib.ListN.{length}
 use Rattle.engine_spec.specs.Refusals.{refuses, Submission}
 use Rattle.engine_spec.specs.declared.types.SubmitResult.{SubmitResult}
-use Rattle.engine_spec.specs.Lent.{lent, window, handed}
+use Rattle.matcher_spec.specs.Index.{lent}
+use Rattle.engine_spec.specs.Lent.{window, handed}
 use Rattle.engine.proofs.RoomLaw.{room}
 use Rattle.engine.proofs.AnswerLaws.{submit-refused, submit-answered, answered-unrefused}
 use Rattle.engine.proofs.submitting.submit.Statement.{statement}

@@ -2,7 +2,8 @@
 use mathlib.Core.List.{[]}
 use borrow.Author.Needs.{needs}
 use Rattle.engine_spec.specs.Submitting.{stamp}
-use Rattle.engine_spec.specs.Lent.{lent, window, handed}
+use Rattle.matcher_spec.specs.Index.{lent}
+use Rattle.engine_spec.specs.Lent.{window, handed}
 use Rattle.engine_decision.specs.Decided.{decisionIn}
 use Rattle.engine_answers.proofs.AnswerLaws.{computed-is}
 use Rattle.engine_answers.proofs.answers.computed_from.Statement.{statement}

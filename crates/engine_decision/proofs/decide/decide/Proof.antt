@@ -3,7 +3,8 @@ use mathlib.Core.Path.{sym, _∙_}
 use borrow.Author.Tests.{not-true, not-false}
 use borrow.Author.Needs.{needs}
 use Rattle.engine_spec.specs.Windows.{matcherIn}
-use Rattle.engine_spec.specs.Lent.{lent, window}
+use Rattle.matcher_spec.specs.Index.{lent}
+use Rattle.engine_spec.specs.Lent.{window}
 use Rattle.engine_lock.specs.Views.{reachedIn}
 use Rattle.engine_decision.proofs.DecideLaws.{ready-frames, decides-unready, decides-ready}
 use Rattle.engine_decision.proofs.decide.decide.Statement.{statement}

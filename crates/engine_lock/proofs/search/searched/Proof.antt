@@ -3,7 +3,8 @@ use borrow.Author.Needs.{needs}
 use borrow.Author.Tests.{not-true}
 use mathlib.Core.Path.{sym, _∙_}
 use Rattle.engine_spec.specs.Windows.{matcherIn}
-use Rattle.engine_spec.specs.Lent.{lent, window}
+use Rattle.matcher_spec.specs.Index.{lent}
+use Rattle.engine_spec.specs.Lent.{window}
 use Rattle.engine_lock.proofs.SearchLaws.{evidence-ending, untracked}
 use Rattle.engine_lock.proofs.search.searched.Statement.{statement}
 use Rattle.engine_lock.proofs.search.searched.Tie as tie

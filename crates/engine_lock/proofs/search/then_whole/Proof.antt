@@ -1,9 +1,10 @@
 -- `engine_lock::search::then_whole` meets its contract. Assumes nothing.
 use borrow.Author.Needs.{needs}
 use borrow.Author.Tests.{not-true, not-false}
-use mathlib.Core.Path.{sym, _∙_}
+use mathlib.Core.Path.{sym}
 use Rattle.engine_spec.specs.Windows.{matcherIn}
-use Rattle.engine_spec.specs.Lent.{lent, window}
+use Rattle.matcher_spec.specs.Index.{lent}
+use Rattle.engine_spec.specs.Lent.{window}
 use Rattle.engine_lock.specs.Views.{reachedIn, trackedIn}
 use Rattle.engine_lock.proofs.SearchLaws.{some-bands, filled-of, whole-made}
 use Rattle.engine_lock.proofs.search.then_whole.Statement.{statement}
@@ -19,19 +20,8 @@ whole-found-requires c κs =
     let p = c .before .before .before .before .before .before .before .before .before .before .before .before .before .before .pre in
     let room = p .0 in
     let e = c .before .before .reference-of .ensures in
-    let filled = p .1 .1 .1 (not-false _ (c .before .before .before .before .if1 .left)) in (
-      rw e (room .hop),
-      (
-        rw e (some-bands _ _ (room .both) (p .1 .0)),
-        (
-          rw e (room .few),
-          (
-            rw e (room .short),
-            (rw e (room .fine), (rw e (room .fine-energy), (rw e (room .coarse), (rw e (room .coarse-energy), (room .work32, (rw e (room .work64), filled-of (sym e) filled)))))),
-          ),
-        ),
-      ),
-    )
+    let filled = p .1 .1 .1 (not-false _ (c .before .before .before .before .if1 .left)) in
+    (record { hop = rw e (room .hop); some = rw e (some-bands _ _ (room .both) (p .1 .0)); few = rw e (room .few); short = rw e (room .short) }, (record { value-room = rw e (room .fine); energy-room = rw e (room .fine-energy) }, (record { value-room = rw e (room .coarse); energy-room = rw e (room .coarse-energy) }, (record { work32-room = room .work32; work64-room = rw e (room .work64) }, filled-of (sym e) filled))))
 
 returns-2 : tie.Need-returns-2
 returns-2 c =

@@ -9,7 +9,8 @@ use Rattle.matcher_spec.proofs.CandidateLaws.{listed-result}
 use Rattle.engine_spec.specs.Windows.{matcherIn}
 use Rattle.engine_spec.specs.Tracking.{tracked, unsupported}
 use Rattle.engine_spec.specs.declared.types.Hypothesis.the-variants as hypothesis
-use Rattle.engine_spec.specs.Lent.{lent, window}
+use Rattle.matcher_spec.specs.Index.{lent}
+use Rattle.engine_spec.specs.Lent.{window}
 use Rattle.engine_lock.proofs.SearchLaws.{evidence-ending, some-bands, coasted, filled-of, found-few}
 use Rattle.engine_lock.proofs.LockLaws.{dropped}
 use Rattle.engine_lock.proofs.search.tracked.Statement.{statement}
@@ -35,13 +36,8 @@ local-found-requires : tie.Need-local-found-requires
 local-found-requires c κs =
     let start = c .before .before .before .before .before .before .before .before .before .before .before .before .before .before .before .before .before .before in
     let room = start .pre .0 in
-    let e = c .before .reference-of .ensures in (
-      rw e (room .hop),
-      (
-        rw e (some-bands _ _ (room .both) (start .pre .1 .0)),
-        (rw e (room .few), (rw e (room .short), (rw e (room .fine), (rw e (room .fine-energy), (room .work32, (rw e (room .work64), filled-of (sym e) (start .pre .1 .1))))))),
-      ),
-    )
+    let e = c .before .reference-of .ensures in
+    (record { hop = rw e (room .hop); some = rw e (some-bands _ _ (room .both) (start .pre .1 .0)); few = rw e (room .few); short = rw e (room .short) }, (record { value-room = rw e (room .fine); energy-room = rw e (room .fine-energy) }, (record { work32-room = room .work32; work64-room = rw e (room .work64) }, filled-of (sym e) (start .pre .1 .1))))
 
 returns-2 : tie.Need-returns-2
 unfolding tracked

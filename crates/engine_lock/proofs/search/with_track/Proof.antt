@@ -2,7 +2,8 @@
 use borrow.Author.Needs.{needs}
 use mathlib.Core.Path.{_∙_}
 use Rattle.engine_spec.specs.Windows.{matcherIn}
-use Rattle.engine_spec.specs.Lent.{lent, window}
+use Rattle.matcher_spec.specs.Index.{lent}
+use Rattle.engine_spec.specs.Lent.{window}
 use Rattle.engine_lock.specs.Views.{reachedIn}
 use Rattle.engine_lock.proofs.SearchLaws.{some-bands, room-kept, filled-of, by-track}
 use Rattle.engine_lock.proofs.search.with_track.Statement.{statement}
@@ -13,7 +14,7 @@ fill-query-requires c κs =
     let p = c .before .before .before .before .before .before .before .before .before .before .before .before .before .before .pre in
     let room = p .0 in
     let e = c .before .before .reference-of .ensures in
-    (rw e (room .hop), (rw e (some-bands _ _ (room .both) (p .1)), (room .values, (room .work32, rw e (room .work64)))))
+    (record { hop = rw e (room .hop); some = rw e (some-bands _ _ (room .both) (p .1)); few = rw e (room .few); short = rw e (room .short) }, (room .values, record { work32-room = room .work32; work64-room = rw e (room .work64) }))
 
 tracked-requires : tie.Need-tracked-requires
 tracked-requires c κs =

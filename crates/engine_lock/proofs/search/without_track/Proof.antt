@@ -10,7 +10,8 @@ use Rattle.engine_spec.specs.Tracking as tracking
 use Rattle.engine_spec.specs.Tracking.{unsupported}
 use Rattle.engine_spec.specs.Locking.{wholeDue}
 use Rattle.engine_spec.specs.declared.types.Hypothesis.the-variants as hypothesis
-use Rattle.engine_spec.specs.Lent.{lent, window}
+use Rattle.matcher_spec.specs.Index.{lent}
+use Rattle.engine_spec.specs.Lent.{window}
 use Rattle.engine_lock.specs.Views.{reachedIn}
 use Rattle.engine_lock.proofs.SearchLaws.{some-bands, room-kept, filled-of, found-few, by-track}
 use Rattle.engine_lock.proofs.search.without_track.Statement.{statement}
@@ -21,7 +22,7 @@ fill-if-requires c κs =
     let p = c .before .before .before .before .before .before .before .before .before .before .before .before .before .before .before .pre in
     let room = p .0 in
     let e = c .before .before .reference-of .ensures in
-    (rw e (room .hop), (rw e (some-bands _ _ (room .both) (p .1 .0)), (room .values, (room .work32, rw e (room .work64)))))
+    (record { hop = rw e (room .hop); some = rw e (some-bands _ _ (room .both) (p .1 .0)); few = rw e (room .few); short = rw e (room .short) }, (room .values, record { work32-room = room .work32; work64-room = rw e (room .work64) }))
 
 then-whole-requires : tie.Need-then-whole-requires
 then-whole-requires c κs =

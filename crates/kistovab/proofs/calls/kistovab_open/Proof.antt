@@ -7,7 +7,7 @@ use mathlib.Core.Path.{_≡_, sym, _∙_}
 use borrow.Author.Needs.{needs}
 use Rattle.matcher_spec.specs.Features.{features}
 use Rattle.engine_spec.specs.Refusals.{refuses}
-use Rattle.engine_spec.specs.Lent.{lent}
+use Rattle.matcher_spec.specs.Index.{lent}
 use Rattle.kistovab.specs.Calls.{configured}
 use Rattle.kistovab.proofs.CallLaws.{short-code, short-index, short-opens, open-code, index-after, refused-opens, opened-opens, opened-zero, guaranteed-of}
 use Rattle.kistovab.proofs.calls.kistovab_open.Statement.{statement}

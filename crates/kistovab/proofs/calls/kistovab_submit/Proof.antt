@@ -8,7 +8,8 @@ use borrow.Author.Needs.{needs}
 use Rattle.engine_layout.specs.Layout.{stateIn}
 use Rattle.engine_spec.proofs.Submissions.{clash}
 use Rattle.engine_spec.specs.Refusals.{Submission, refuses}
-use Rattle.engine_spec.specs.Lent.{handed, lent, window}
+use Rattle.matcher_spec.specs.Index.{lent}
+use Rattle.engine_spec.specs.Lent.{handed, window}
 use Rattle.kistovab.specs.Codes.{answers}
 use Rattle.kistovab.proofs.CallLaws.{few-words, few-shown, short-submits, submit-code, refused-submits, reread-submits, computed-submits, same, way-made, by-answer, answered}
 use Rattle.kistovab.proofs.calls.kistovab_submit.Statement.{statement}

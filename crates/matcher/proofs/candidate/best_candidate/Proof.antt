@@ -1,11 +1,11 @@
 -- `matcher::candidate::best_candidate` meets its contract: the query's energies, which stand before the scores, are as they were. Assumes nothing.
 use borrow.Author.Needs.{needs}
-use mathlib.Core.Path.{_≡_, ap, _∙_}
+use mathlib.Core.Path.{_≡_, ap}
 use Prim.Native.Nat.{ℕ, _+_, _-_, _*_, _≤_}
 use native.Mathlib.Omega.{arith}
 use mathlib.Core.List.{List}
 use lib.Ieee.{Float}
-use lib.ListN.{take, drop}
+use lib.ListN.{take}
 use Rattle.matcher_spec.specs.Energy.{bandsOf}
 use Rattle.matcher.proofs.SearchLaws.{shorter-front, best-is}
 use Rattle.matcher.proofs.candidate.best_candidate.Statement.{statement}
@@ -19,7 +19,7 @@ returns c =
     let w : List Float = a .work .now in
     let after : List Float = done .score-places .last .1 .1 .1 .1 .1 .1 .0 in
     let front : ℕ = a .reference .bands * (a .n + 1) in
-    let before : front ≤ a .at = start .pre .1 .1 .1 .1 .1 .1 .1 .0 in
+    let before : front ≤ a .at = start .pre .1 .1 .1 .1 .1 .0 in
     let places : ℕ = a .high - a .low + 1 in
     let same : a .at + places - a .at ≡ places = omega arith in
     let all : front - 0 ≡ front = omega arith in

@@ -9,7 +9,7 @@ score-part-requires-3 : tie.Need-score-part-requires-3
 score-part-requires-3 c κs =
     let less = c .before .before .before .before .before .saturating-sub .ensures in
     let p = c .before .before .before .before .before .before .before .before .before .before .before .before .before .pre in
-    (omega arith, (omega arith, (omega arith, (omega arith, (omega arith, (omega arith, omega arith))))))
+    (p .1 .1 .0, (p .1 .1 .1, (omega arith, (omega arith, omega arith))))
 
 returns : tie.Need-returns
 unfolding candidateOf

@@ -19,7 +19,7 @@ slice-aggregate-correlations c = simp length-take (omega arith)
 
 correlations-requires : tie.Need-correlations-requires
 correlations-requires c κs =
-    (omega arith, (omega arith, (omega arith, (simp length-take (omega arith), simp (length-take, length-drop) (omega arith)))))
+    (record { value-room = omega arith; energy-room = omega arith }, (omega arith, (simp length-take (omega arith), simp (length-take, length-drop) (omega arith))))
 
 -- the scores by the energies that stand in the buffer, of which a part was lent
 scores-are : (bands : ℕ) (reference : Bands) (n : ℕ) (query : List Float) (low places k from m : ℕ) {part : ℕ} (work whole scores : List Float)

@@ -30,7 +30,7 @@ slice-aggregate-fill-coarse : tie.Need-slice-aggregate-fill-coarse
 slice-aggregate-fill-coarse c = simp length-take (omega arith)
 
 fill-coarse-requires : tie.Need-fill-coarse-requires
-fill-coarse-requires c κs = (simp length-take (omega arith), (omega arith, omega arith))
+fill-coarse-requires c κs = (simp length-take (omega arith), record { value-room = omega arith; energy-room = omega arith })
 
 returns-2 : tie.Need-returns-2
 unfolding matcherOf

@@ -27,7 +27,7 @@ query-candidate-requires c κs =
     let within = counts-within last (ends .before .before .before .before .before .at-least .result) (ends .before .floor .result) (omega arith) most ordered in
     let low = c .before .before .count .ensures in
     let high = c .before .count2 .ensures in
-    (p .0, (p .1 .0, (omega arith, (omega arith, (p .1 .1 .1 .0, (p .1 .1 .1 .1 .0, (p .1 .1 .1 .1 .1 .0, (p .1 .1 .1 .1 .1 .1 .0, p .1 .1 .1 .1 .1 .1 .1))))))))
+    (p .0, (omega arith, (omega arith, (p .1 .0, (p .1 .1 .0, p .1 .1 .1)))))
 
 push-requires : tie.Need-push-requires
 push-requires c κs = (rw (c .nothing-found .ensures) (omega arith), result-listed [] (c .nothing-found .ensures))

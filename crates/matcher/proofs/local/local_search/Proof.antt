@@ -8,7 +8,7 @@ local-found-requires : tie.Need-local-found-requires
 local-found-requires c κs =
     let p = c .before .before .before .before .before .before .before .before .before .before .before .before .before .before .before .pre in
     let filled = c .before .before .before .before .before .before .fill-query in
-    (p .0, (p .1 .0, (p .1 .1 .0, (p .1 .1 .1 .0, (p .1 .1 .1 .1 .0, (p .1 .1 .1 .1 .1 .0, (omega arith, (omega arith, filled .ensures))))))))
+    (p .0, (p .1 .0, (record { work32-room = omega arith; work64-room = omega arith }, filled .ensures)))
 
 returns : tie.Need-returns
 returns c = let done = c .before .before .local-found .ensures in (done .0, done .1 .0)

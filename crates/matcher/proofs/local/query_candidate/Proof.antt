@@ -19,7 +19,7 @@ slice-aggregate-best-candidate-3 c = let p = c .before .before .before .before .
 
 best-candidate-requires : tie.Need-best-candidate-requires
 best-candidate-requires c κs =
-    let p = c .before .before .before .before .before .before .before .before .before .before .pre in (p .0, (p .1 .1 .0, (p .1 .1 .1 .0, (p .1 .1 .1 .1 .0, (simp length-take (omega arith), (simp length-take (omega arith), (simp length-take (omega arith), (omega arith, (p .1 .1 .1 .1 .1 .1 .1 .1, p .1 .0)))))))))
+    let p = c .before .before .before .before .before .before .before .before .before .before .pre in (p .0, (p .1 .0, (p .1 .1 .0, (record { value-room = simp length-take (omega arith); energy-room = simp length-take (omega arith) }, (simp length-take (omega arith), (omega arith, p .1 .1 .1 .1 .1))))))
 
 returns : tie.Need-returns
 returns c =

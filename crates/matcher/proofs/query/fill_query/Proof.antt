@@ -20,7 +20,7 @@ centre-query-requires c κs =
     let a = start .args in
     let p = start .pre in
     let room = searchable-room (a .reference) (features (a .bands) (a .times .now) (a .values .now)) (searchable-true (a .reference) (features (a .bands) (a .times .now) (a .values .now)) (at .before .is-searchable .result) (at .before .is-searchable .ensures) (at .if1 .left)) in
-    let small = radius-small (a .reference .«hop_ms») (p .0) in
+    let small = radius-small (a .reference .«hop_ms») (p .0 .hop) in
     let r = c .radius .ensures in
     (omega arith, (omega arith, (omega arith, (omega arith, (omega arith, omega arith)))))
 

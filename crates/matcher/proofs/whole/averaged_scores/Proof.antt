@@ -24,7 +24,7 @@ score-averages-requires c κs =
     let bands : ℕ = a .reference .bands in
     let values : bands * (a .n / 4) ≤ bands * a .n = mul-le-mul-left bands (omega arith) in
     let energies : bands * (a .n / 4 + 1) ≤ bands * (a .n + 1) = mul-le-mul-left bands (omega arith) in
-    (p .0, (p .1 .0, (p .1 .1 .0, (p .1 .1 .1 .0, (simp length-take (omega arith), (simp length-take (omega arith), (omega arith, (omega arith, omega arith))))))))
+    (p .0, (record { value-room = simp length-take (omega arith); energy-room = simp length-take (omega arith) }, (omega arith, (omega arith, omega arith))))
 
 returns : tie.Need-returns
 returns c =

@@ -44,7 +44,7 @@ with-candidate-requires c κs =
     let start = c .before .before .before .before .before .before .before .before .before in
     let p = start .pre in
     let inv = c .before .before .loop .inv in
-    (omega arith, (inv .3 .1, (start .pre .1 .1 .1 .1 .1 .1 .1 .1 .1 .1 (c .before .before .loop .k), (omega arith, (omega arith, (omega arith, (omega arith, (omega arith, (omega arith, (omega arith, (omega arith, omega arith)))))))))))
+    (omega arith, (inv .3 .1, (start .pre .1 .1 .1 .1 .1 .1 (c .before .before .loop .k), (p .0, (p .1 .1 .0, (omega arith, (omega arith, omega arith)))))))
 
 loop-again : tie.Need-loop-again Inv-loop μ-loop
 loop-again c =
@@ -55,7 +55,7 @@ loop-again c =
     let p = start .pre in
     let inv = at .loop .inv in
     let front : ℕ = a .reference .bands * (a .n + 1) in
-    let before : front ≤ a .at = start .pre .1 .1 .1 .1 .1 .1 .1 .0 in
+    let before : front ≤ a .at = start .pre .1 .1 .1 .1 .0 in
     let w : List Float = at .loop .work in
     let energies = shorter-front front (a .at) w (a .work .now) before (inv .2) in
     let long : length (a .picked .at) ≡ 8 = eight (a .picked) _ (start .good .1 .1 .1 .1 .1 .1 .1 .1 .0) in

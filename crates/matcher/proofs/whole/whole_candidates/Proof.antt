@@ -1,6 +1,6 @@
 -- `matcher::whole::whole_candidates` meets its contract: the averages, their energies and the scores stand behind the query. Assumes nothing.
 use borrow.Author.Needs.{needs}
-use mathlib.Core.Path.{_≡_, sym, ap, _∙_}
+use mathlib.Core.Path.{_≡_, sym, ap}
 use Prim.Native.Nat.{ℕ, _+_, _-_, _*_, _/_, _^_, _≤_, _<_}
 use native.Mathlib.Nat.{mul-le-mul-left, le-trans}
 use native.Mathlib.Omega.{arith}
@@ -57,7 +57,7 @@ candidates-around-requires c κs =
     let query : end ≤ length (take end v) = omega (arith, length-take-le end v (omega arith)) in
     let few : length (take (from + places - from) (drop from e)) ≤ 65536 = simp length-take (omega arith) in
     let found = c .before .before .before .before .pick-peaks .ensures in
-    (p .0, (p .1 .1 .0, (p .1 .1 .1 .0, (found .1 .0, (simp length-take (omega arith), (simp length-take (omega arith), (query, (omega arith, (omega arith, (p .1 .0, λ k. le-trans (found .1 .1 k) few))))))))))
+    (p .0, (found .1 .0, (record { value-room = simp length-take (omega arith); energy-room = simp length-take (omega arith) }, (query, (omega arith, (omega arith, λ k. le-trans (found .1 .1 k) few))))))
 
 pub whole-candidates-spec : {M : Type 1} → statement M
 whole-candidates-spec =

@@ -8,7 +8,7 @@ whole-found-requires : tie.Need-whole-found-requires
 whole-found-requires c κs =
     let p = c .before .before .before .before .before .before .before .before .before .before .before .before .before .before .before .before .before .pre in
     let filled = c .before .before .before .before .before .before .fill-query in
-    (p .0, (p .1 .0, (p .1 .1 .0, (p .1 .1 .1 .0, (p .1 .1 .1 .1 .0, (p .1 .1 .1 .1 .1 .0, (p .1 .1 .1 .1 .1 .1 .0, (p .1 .1 .1 .1 .1 .1 .1 .0, (omega arith, (omega arith, filled .ensures))))))))))
+    (p .0, (p .1 .0, (p .1 .1 .0, (record { work32-room = omega arith; work64-room = omega arith }, filled .ensures))))
 
 returns : tie.Need-returns
 returns c = c .before .before .before .before .whole-found .ensures

@@ -8,13 +8,13 @@ use lib.ListN.{length, getD, drop, length-drop, length-set}
 use lib.Seq.{take-all}
 use lib.Ieee.{Float, nan, ofBits}
 use Rattle.numbers_spec.specs.Arithmetic.{zero⁺}
-use Rattle.matcher_spec.specs.Limits.{bandsMost}
 use Rattle.numbers_spec.specs.Rows.{tabulate}
 use Rattle.matcher_spec.specs.Energy.{wholeEnergies}
 use Rattle.numbers_spec.proofs.RowLaws.{length-tabulate, row-within, Filled, filled-more}
 use Rattle.matcher_bands.proofs.CentringLaws.{tabulate-part}
 use Rattle.matcher_bands.proofs.energy.whole_energies.Statement.{statement}
 use Rattle.matcher_bands.proofs.energy.whole_energies.Tie as tie
+use Rattle.matcher_spec.specs.Limits.{bandsMost}
 
 abbrev last : ℕ → List Float → ℕ → Float
 last n energy b = getD energy (b * suc n + n) nan

@@ -52,7 +52,7 @@ fill-index-requires c κs =
     let l = c .before .before .before .before .before .before .before .fill-reference .kept .0 in
     let t = length-take-le (c .before .before .before .before .before .before .before .before .before .before .before .before .before .args .case .frames) (c .before .before .before .before .before .before .before .before .before .before .fill-times .last .0) (omega arith) in
     let v = length-take-le (c .before .before .before .before .before .before .before .before .before .before .before .before .before .args .case .bands * c .before .before .before .before .before .before .before .before .before .before .before .before .before .args .case .frames) (c .before .before .before .before .before .before .before .fill-reference .last .0) (omega (arith, s .fine .all)) in
-    (s .limit .wide, rw (t, v) (omega arith))
+    (s .limit .wide, (rw (t, v) (omega arith), (record { value-room = rw t (omega arith); energy-room = rw t (omega arith) }, record { value-room = rw t (omega arith); energy-room = rw t (omega arith) })))
 
 search-in-requires : tie.Need-search-in-requires
 search-in-requires c κs =

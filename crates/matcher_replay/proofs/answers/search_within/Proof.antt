@@ -12,13 +12,15 @@ whole-search-requires : tie.Need-whole-search-requires
 whole-search-requires c κs =
     let p = c .before .before .before .before .before .before .before .before .before .before .pre in
     let s = small _ (p .0) in
-    (s .limit .wide, rw (p .1 .1 .1 .1 .1 .0) (omega arith))
+    let e = p .1 .1 .1 .1 .1 .0 in
+    (record { hop = s .limit .wide; some = omega arith; few = omega arith; short = omega arith }, (record { value-room = omega arith; energy-room = omega arith }, (record { value-room = omega arith; energy-room = omega arith }, (rw e (omega arith), record { work32-room = rw e (omega arith); work64-room = rw e (omega arith) }))))
 
 local-search-requires : tie.Need-local-search-requires
 local-search-requires c κs =
     let p = c .before .before .before .before .before .before .before .before .before .before .before .before .before .before .before .before .before .before .before .before .before .pre in
     let s = small _ (p .0) in
-    (s .limit .wide, rw (p .1 .1 .1 .1 .1 .0) (omega arith))
+    let e = p .1 .1 .1 .1 .1 .0 in
+    (record { hop = s .limit .wide; some = omega arith; few = omega arith; short = omega arith }, (record { value-room = omega arith; energy-room = omega arith }, (rw e (omega arith), record { work32-room = rw e (omega arith); work64-room = rw e (omega arith) })))
 
 returns : tie.Need-returns
 unfolding wholeOf ofBits
