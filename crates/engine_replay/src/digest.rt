@@ -28,7 +28,7 @@ pub fn with_floats(word: u64, list: &[f64]) -> u64 {
     all
 }
 
-// The same of f32, widened.
+// All values of a row of f32, widened, taken into the digest.
 pub fn with_narrow(word: u64, list: &[f32]) -> u64 {
     let mut all = word;
     let mut i = 0usize;

@@ -50,7 +50,7 @@ heard N x w clock = record {
   room64 = 3 * w .bands * (length (w .times) + 1) + N;
 }
 
--- The same without working buffers.
+-- A submission without working buffers.
 abbrev pub heardWithoutWork : Index → Window → Float → Submission
 heardWithoutWork x w clock = record { index = x; window = w; clock = record { 0 = clock }; room32 = 0; room64 = 0 }
 

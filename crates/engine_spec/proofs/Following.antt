@@ -47,7 +47,7 @@ module _ (hop : Float) (a : ℕ → Answered) where
     no-track : Accepted n hypothesis.Absent
     on-track : {o : Float} {f l : RecordedMs} {c : Float} → Follows n l → Accepted n (hypothesis.Held o f l c)
 
-  -- the same with a jump at n taken account of
+  -- the track after answer n, where a jump at n may have ended it
   pub data Tracked (n : ℕ) : Hypothesis → Type 0 where
     no-more : Tracked n hypothesis.Absent
     still : {o : Float} {f l : RecordedMs} {c : Float} → T (not (jumpAt hop a n)) → Follows n l → Tracked n (hypothesis.Held o f l c)

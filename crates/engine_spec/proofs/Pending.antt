@@ -52,7 +52,7 @@ module _ (hop : Float) (a : ℕ → Answered) where
     idle : ((i : ℕ) → Open hop a i n → ⊥) → Pending n hypothesis.Absent
     running : {o : Float} {f l : RecordedMs} {c : Float} → Running n o f l → Pending n (hypothesis.Held o f l c)
 
-  -- the same with a jump at n taken account of
+  -- the pending place after answer n, where a jump at n may have ended it
   pub data Ready (n : ℕ) : Hypothesis → Type 0 where
     none-open : ((i : ℕ) → i < n → Open hop a i (suc n) → ⊥) → Ready n hypothesis.Absent
     going : {o : Float} {f l : RecordedMs} {c : Float} → T (not (jumpAt hop a n)) → Running n o f l → Ready n (hypothesis.Held o f l c)

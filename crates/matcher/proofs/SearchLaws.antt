@@ -339,7 +339,7 @@ unfolding coarseScores wholeEnergies
 averaged-is bands n coarse query scores values energies p a b =
     p ∙ (λ i. correlations bands coarse (n / 4) (a i) (wholeEnergies bands (bandsOf (n / 4) [] (b i))) 0 (coarse .count - n / 4 + 1))
 
--- the same of buffers that are longer than the bands
+-- the averaged scores over buffers that may be longer than the bands
 pub averaged-lent : (bands n m : ℕ) (values energy query held scores : List Float)
     → scores ≡ coarseScores bands (bandsOf m (take (bands * m) values) (take (bands * (m + 1)) energy)) (bandsOf n (take (bands * n) query) [])
     → scores ≡ coarseScores bands (lentBands bands m values energy) (lentBands bands n query held)

@@ -1,5 +1,5 @@
 // The matcher: fills an index from a reference and searches it for a window's place. Its functions
-// equal the definitions of specs/, which are written from document 01, and rest on what
+// equal the definitions of matcher_spec, which are written from document 01, and rest on what
 // matcher_bands, matcher_scores, matcher_picks and numbers state.
 mod candidate;
 pub mod index;

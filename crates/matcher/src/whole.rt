@@ -20,6 +20,7 @@ use matcher_picks::candidates::keep_independent;
 use matcher_picks::candidates::nothing_found;
 use matcher_picks::peaks::Picked;
 use matcher_picks::peaks::pick_peaks;
+use matcher_spec::constants::APART_MS;
 use matcher_spec::types::MatchResult;
 use matcher_spec::types::Reference;
 use numbers::counts::max;
@@ -247,7 +248,7 @@ fn reduce_query(query: &mut [f32], work: &mut [f64], bands: usize, n: usize, fro
 fn peak_separation(hop: f64) -> usize
     ensures { λ r. ⌜ r ≡ separation hop ⌝ }
 {
-    max(1, count(750.0 / (hop * 4.0)))
+    max(1, count(APART_MS / (hop * 4.0)))
 }
 
 // The candidates around the peaks, the best first. `work` has the query's energies at its front.

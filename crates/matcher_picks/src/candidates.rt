@@ -4,6 +4,7 @@ ghost use mathlib.Core.List.{[], _∷_, _++_};
 ghost use mathlib.Core.Path.{_≡_};
 ghost use Rattle.matcher_spec.specs.Candidates.{blank, crowded, independent, insert, listed, marginOf, resultOf};
 ghost use Rattle.matcher_spec.specs.Limits.{candidatesMost};
+use matcher_spec::constants::APART_MS;
 use matcher_spec::limits::CANDIDATES_MOST;
 use matcher_spec::types::Candidate;
 use matcher_spec::types::MatchResult;
@@ -101,7 +102,7 @@ fn is_crowded(result: MatchResult, c: Candidate) -> bool
     let mut i = 0usize;
     while i < n {
         let other = candidates[i];
-        if abs(other.offset_ms - c.offset_ms) < 750.0 {
+        if abs(other.offset_ms - c.offset_ms) < APART_MS {
             return true;
         }
         i += 1;

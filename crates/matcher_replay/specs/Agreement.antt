@@ -76,7 +76,7 @@ module _ (c : Case) where
   unfoldable pub heardIn : List Float → List Float → List Float → List Float → Answers
   heardIn fine coarse fineEnergy coarseEnergy = searchedIn c fine coarse fineEnergy coarseEnergy windowTimes windowSound
 
-  -- The same of the index that four buffers hold once they are filled from the reference.
+  -- What is heard in the index that four buffers hold once they are filled from the reference.
   unfoldable pub answersIn : List Float → List Float → List Float → List Float → Answers
   answersIn fine coarse fineEnergy coarseEnergy =
       let accepted = acceptsReference (c .hop) (c .bands) referenceTimes referenceSound in

@@ -329,7 +329,7 @@ whole-finds m w P h = whole (All P) m w (λ i k. absurd (not-suc-le-zero k)) (λ
 pub whole-sorted : WholeSorted
 whole-sorted m w h = whole (Pairs NoHigher) m w (λ i j h k. absurd (not-suc-le-zero k)) (λ s. sorted-by-score (found m w) (every-all {P = Scored} (found-every Scored m w h s)))
 
--- the same for a local search
+-- what holds of no candidates and of what is found in the range holds of a local search
 near : (G : List Candidate → Type 0) (x : Reference) (fine : Bands) (w : Features) (lower upper : Float) → G []
     → (Searchable x w → G (localFound x fine (queryOf (radius (x .«hop_ms»)) w) (queryStart (radius (x .«hop_ms»)) w) lower upper)) → G (localSearch x fine w lower upper)
 unfolding localSearch

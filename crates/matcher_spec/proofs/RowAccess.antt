@@ -61,7 +61,7 @@ length-kept r v = simp (length-take, length-drop) (omega arith)
 pub length-energies : (v : List Float) → length (energies v) ≡ suc (length v)
 length-energies v = length-tabulate (energyTo v) (length v + 1) ∙ omega arith
 
--- the same of `bands` rows of n values each
+-- lengths and elements of `bands` rows of n values each
 module _ (bands n : ℕ) (v : List Float) (h : bands * n ≤ length v) where
   row-size : (b : ℕ) → b < bands → length (row n v b) ≡ n
   row-size b w = length-row bands n v b h w

@@ -30,7 +30,7 @@ KeptWithin = (r : ℕ) (v : List Float) → Every Small v → Every Small (kept 
 abbrev pub AveragesWithin : Type 0
 AveragesWithin = (v : List Float) → Every Small v → Every Small (averages v)
 
--- ---- the same of bands with n values each: the reference's, the query's, and both averaged
+-- ---- bounds of bands with n values each: the reference's, the query's, and both averaged
 abbrev pub FineWithin : Type 0
 FineWithin = (r bands n : ℕ) (values : List Float) → r ≤ 2 ^ 40 → n ≤ 2 ^ 40 → Every F32 values → validValues values ≡ true → Every Small (fineValues r bands n values)
 

@@ -16,7 +16,7 @@ use Rattle.matcher.proofs.SearchLaws.{shorter-front, Found, found-none,
 use Rattle.matcher.proofs.whole.candidates_around.Statement.{statement}
 use Rattle.matcher.proofs.whole.candidates_around.Tie as tie
 
--- the same is found by energies that are the same
+-- energies that are equal find equal candidates
 found-by : (x : Reference) (fine : Bands) (n : ℕ) (query energy held : List Float) (start : Float) (found more : MatchResult) (peak : ℕ)
     → more ≡ resultOf (sortInto (listed found) (candidatesAt x fine (bandsOf n query energy) start (peak ∷ []))) → energy ≡ held
     → more ≡ resultOf (sortInto (listed found) (candidatesAt x fine (bandsOf n query held) start (peak ∷ [])))
