@@ -1,6 +1,6 @@
 -- `matcher::whole::whole_candidates` meets its contract: the averages, their energies and the scores stand behind the query. Assumes nothing.
 use borrow.Author.Needs.{needs}
-use mathlib.Core.Path.{_≡_, sym, ap}
+use mathlib.Core.Path.{_≡_, sym, ap, _∙_}
 use Prim.Native.Nat.{ℕ, _+_, _-_, _*_, _/_, _^_, _≤_, _<_}
 use native.Mathlib.Nat.{mul-le-mul-left, le-trans}
 use native.Mathlib.Omega.{arith}
