@@ -11,7 +11,7 @@ use Rattle.matcher_spec.specs.Features.{Features}
 use Rattle.matcher_spec.specs.Search.{localSearch, wholeSearch}
 use Rattle.matcher_spec.specs.declared.types.Candidate.{Candidate}
 use Rattle.matcher_spec.specs.declared.types.Reference.{Reference}
-use Rattle.matcher_spec.specs.Limits.{hopLeast, hopMost, framesMost, windowMost, bandsMost}
+use Rattle.matcher_spec.specs.Limits.{hopLeast, hopMost, framesMost, windowMost, bandsMost, candidatesMost}
 
 -- The answer where a slice is too short or a number is out of its range: nothing is written then.
 abbrev pub unfit : ℕ
@@ -120,7 +120,7 @@ candidatesAt l =
 
 -- At most 8 candidates, the numbers of 8, and room for one number.
 unfoldable pub fitsMargin : ℕ → ℕ → ℕ → Bool
-fitsMargin numbers count out = leb count 8 && (leb 40 numbers && ltb 0 out)
+fitsMargin numbers count out = leb count candidatesMost && (leb 40 numbers && ltb 0 out)
 
 -- 1 where the margin is written.
 abbrev pub marginAnswer : List Float → ℕ → List Float → ℕ

@@ -328,7 +328,7 @@ fn candidates_at(numbers: &[f64]) -> [Candidate; CANDIDATES_MOST]
 fn fits_margin(numbers: usize, count: usize, out: usize) -> bool
     ensures { λ r. ⌜ r ≡ fitsMargin numbers count out ⌝ }
 {
-    (count <= 8) & ((NUMBERS <= numbers) & (out > 0))
+    (count <= CANDIDATES_MOST) & ((NUMBERS <= numbers) & (out > 0))
 }
 
 // Writes the margin of the first `count` candidates, whose numbers stand as a search writes them, and

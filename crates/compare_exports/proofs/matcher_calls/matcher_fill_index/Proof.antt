@@ -1,6 +1,10 @@
--- `exports::matcher_calls::matcher_fill_index` meets its contract: what does not fit is answered at once, and what fits is filled or rejected as `matcher::index::fill_index` says. Assumes nothing.
+-- `compare_exports::matcher_calls::matcher_fill_index` meets its contract: what does not fit is answered at once, and what fits is filled or rejected as `matcher::index::fill_index` says. Assumes nothing.
+use mathlib.Core.Path.{ap}
+use mathlib.Core.Bool.{Bool, cond}
+use Rattle.matcher_spec.specs.Index.{lent}
 use Rattle.compare_exports.specs.MatcherCalls.{fillAnswer, filledBuffers}
-use Rattle.compare_exports.proofs.FitLaws.{fillable, passed, failed}
+use Rattle.compare_exports.proofs.CallLaws.{fill-room, fill-answers}
+use Rattle.compare_exports.proofs.FitLaws.{failed}
 use borrow.Author.Needs.{needs}
 use Rattle.compare_exports.proofs.matcher_calls.matcher_fill_index.Statement.{statement}
 use Rattle.compare_exports.proofs.matcher_calls.matcher_fill_index.Tie as tie
@@ -12,26 +16,27 @@ returns c = let e = failed (c .before .fits-fill .ensures) (c .if1 .taken) in (r
 fill-index-requires : tie.Need-fill-index-requires
 fill-index-requires c κs =
     let p = c .before .before .before .before in
-    let f = fillable _ _ _ _ _ _ _ _ (passed (p .before .fits-fill .ensures) (p .if1 .left)) in
-    (f .reference .wide, (f .whole, (record { value-room = f .fines .all; energy-room = f .fines .sums }, record { value-room = f .coarses .all; energy-room = f .coarses .sums })))
+    let a = p .before .before .before .before .before .before .before .before .args in
+    let x = lent (a .fine .now) (a .coarse .now) (a .fine-energy .now) (a .coarse-energy .now) in
+    fill-room (a .hop) (a .bands) (a .times .now) (a .values .now) x (p .before .fits-fill .ensures) (p .if1 .left)
 
 returns-2 : tie.Need-returns-2
-unfolding fillAnswer filledBuffers
 returns-2 c =
     let q = c .before .before .before .before .before .before .before .before .before in
     let p = q .before .before .before .before .before in
-    let e = passed (p .before .fits-fill .ensures) (p .if1 .left) in
+    let a = p .before .before .before .before .before .before .before .before .args in
+    let x = lent (a .fine .now) (a .coarse .now) (a .fine-energy .now) (a .coarse-energy .now) in
     let f = q .fill-index .ensures in
-    (rw (e, ← (f .0), c .if2 .taken), (rw (e, ← (f .0)) (f .1 .0), (rw (e, ← (f .0)) (f .1 .1 .0), (rw (e, ← (f .0)) (f .1 .1 .1 .0), rw (e, ← (f .0)) (f .1 .1 .1 .1)))))
+    fill-answers (a .hop) (a .bands) (a .times .now) (a .values .now) x (p .before .fits-fill .ensures) (p .if1 .left) (f .0) (ap (λ (t : Bool). cond t 1 0) (c .if2 .taken)) (f .1 .0) (f .1 .1 .0) (f .1 .1 .1 .0) (f .1 .1 .1 .1)
 
 returns-3 : tie.Need-returns-3
-unfolding fillAnswer filledBuffers
 returns-3 c =
     let q = c .before .before .before .before .before .before .before .before .before in
     let p = q .before .before .before .before .before in
-    let e = passed (p .before .fits-fill .ensures) (p .if1 .left) in
+    let a = p .before .before .before .before .before .before .before .before .args in
+    let x = lent (a .fine .now) (a .coarse .now) (a .fine-energy .now) (a .coarse-energy .now) in
     let f = q .fill-index .ensures in
-    (rw (e, ← (f .0), c .if2 .left), (rw (e, ← (f .0)) (f .1 .0), (rw (e, ← (f .0)) (f .1 .1 .0), (rw (e, ← (f .0)) (f .1 .1 .1 .0), rw (e, ← (f .0)) (f .1 .1 .1 .1)))))
+    fill-answers (a .hop) (a .bands) (a .times .now) (a .values .now) x (p .before .fits-fill .ensures) (p .if1 .left) (f .0) (ap (λ (t : Bool). cond t 1 0) (c .if2 .left)) (f .1 .0) (f .1 .1 .0) (f .1 .1 .1 .0) (f .1 .1 .1 .1)
 
 pub matcher-fill-index-spec : {M : Type 1} → statement M
 matcher-fill-index-spec =

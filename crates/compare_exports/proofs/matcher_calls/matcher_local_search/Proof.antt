@@ -1,5 +1,9 @@
--- `exports::matcher_calls::matcher_local_search` meets its contract: what does not fit is answered at once, and what fits gives the search and the writer their room. Assumes nothing.
-use Rattle.compare_exports.proofs.FitLaws.{room, passed, failed}
+-- `compare_exports::matcher_calls::matcher_local_search` meets its contract: what does not fit is answered at once, and what fits gives the search and the writer their room. Assumes nothing.
+use lib.ListN.{length}
+use Rattle.matcher_spec.specs.Features.{features}
+use Rattle.compare_exports.specs.MatcherCalls.{fitsLocal, foundNear, referenceOf}
+use Rattle.compare_exports.proofs.CallLaws.{search-room, search-answers}
+use Rattle.compare_exports.proofs.FitLaws.{passed, failed}
 use borrow.Author.Needs.{needs}
 use Rattle.compare_exports.proofs.matcher_calls.matcher_local_search.Statement.{statement}
 use Rattle.compare_exports.proofs.matcher_calls.matcher_local_search.Tie as tie
@@ -10,22 +14,28 @@ returns c = let e = failed (c .before .fits-local .ensures) (c .if1 .taken) in (
 local-search-requires : tie.Need-local-search-requires
 local-search-requires c κs =
     let p = c .before .before in
-    let r = room _ _ _ _ _ _ _ _ _ (passed (p .before .fits-local .ensures) (p .if1 .left)) in
-    let l = r .reference in
-    let w = r .window in
-    (record { hop = l .wide; some = l .some; few = l .most; short = l .short }, (record { value-room = r .index .all; energy-room = r .index .sums }, (w .whole, record { work32-room = w .first; work64-room = w .second })))
+    let a = p .before .before .before .before .before .before .before .before .before .args in
+    let x = referenceOf (a .reference-bands) (a .frames) (a .start) (a .hop) in
+    let r = search-room x (a .fine .now) (a .energy .now) (features (a .bands) (a .times .now) (a .values .now)) (a .work32 .now) (a .work64 .now) (a .out .now) (p .before .fits-local .ensures) (p .if1 .left) in
+    (r .reference, (r .index, (r .window, r .work)))
 
 write-candidates-requires : tie.Need-write-candidates-requires
 write-candidates-requires c κs =
     let p = c .before .before .before .before .before .before .before .before in
-    room _ _ _ _ _ _ _ _ _ (passed (p .before .fits-local .ensures) (p .if1 .left)) .numbers
+    let a = p .before .before .before .before .before .before .before .before .before .args in
+    let x = referenceOf (a .reference-bands) (a .frames) (a .start) (a .hop) in
+    search-room x (a .fine .now) (a .energy .now) (features (a .bands) (a .times .now) (a .values .now)) (a .work32 .now) (a .work64 .now) (a .out .now) (p .before .fits-local .ensures) (p .if1 .left) .numbers
 
 returns-2 : tie.Need-returns-2
 returns-2 c =
     let q = c .before .before .before .before .before .before .before .before in
     let p = q .before .before .before in
-    let e = passed (p .before .fits-local .ensures) (p .if1 .left) in
-    (rw (e, q .local-search .ensures .0), rw (e, c .before .before .write-candidates .ensures, q .local-search .ensures .0))
+    let a = p .before .before .before .before .before .before .before .before .before .args in
+    let x = referenceOf (a .reference-bands) (a .frames) (a .start) (a .hop) in
+    let w = features (a .bands) (a .times .now) (a .values .now) in
+    search-answers (foundNear x (a .fine .now) (a .energy .now) w (a .lower) (a .upper)) (a .out .now)
+    (passed {x = fitsLocal x (a .fine .now) (a .energy .now) w (length (a .work32 .now)) (length (a .work64 .now)) (length (a .out .now))} (p .before .fits-local .ensures) (p .if1 .left))
+    (q .local-search .ensures .0) (c .before .before .write-candidates .ensures)
 
 pub matcher-local-search-spec : {M : Type 1} → statement M
 matcher-local-search-spec =
