@@ -4,6 +4,7 @@ use mathlib.Core.Bool.{Bool, cond}
 use mathlib.Core.List.{List, [], _∷_, _++_}
 use lib.ListN.{length, take, drop, getD}
 use lib.Ieee.{nan}
+use Rattle.matcher_spec.specs.Limits.{candidatesMost}
 use Rattle.engine_layout.specs.Layout.{word}
 use Rattle.engine_spec.specs.declared.types.Settings.{Settings}
 use Rattle.engine_spec.specs.declared.types.Lock.{Lock}
@@ -166,7 +167,7 @@ diagnosticsNumbers d =
     ∷ []
 
 unfoldable pub diagnosticsWords : Diagnostics → List ℕ
-diagnosticsWords d = diagnosticsNumbers d ++ candidatesTo 8 (d .candidates) ++ spectralWords (d .spectral)
+diagnosticsWords d = diagnosticsNumbers d ++ candidatesTo candidatesMost (d .candidates) ++ spectralWords (d .spectral)
 
 unfoldable pub shownWords : Snapshot → List ℕ
 shownWords s =

@@ -4,6 +4,7 @@ ghost use Prim.Native.Nat.{_+_, _≤_};
 ghost use lib.ListN.{length};
 ghost use Rattle.engine_layout.specs.Layout.{candidateOf, candidatesOf};
 ghost use Rattle.engine_layout.specs.Written.{candidateWords, candidatesTo, placed};
+ghost use Rattle.matcher_spec.specs.Limits.{candidatesMost};
 use crate::rows::put;
 use crate::values::float_word;
 use crate::values::word_float;
@@ -42,11 +43,11 @@ pub fn put_candidates(
     candidates: [CandidateDiagnostics; CANDIDATES_MOST],
 )
     requires { ⌜ at + 40 ≤ length (now words) ⌝ }
-    ensures { λ _. ⌜ now (words .exit) ≡ placed at (candidatesTo 8 candidates) (now (words .entry)) ⌝ }
-    ensures back { λ _. ⌜ candidatesOf (candidatesTo 8 candidates) ≡ candidates ⌝ }
+    ensures { λ _. ⌜ now (words .exit) ≡ placed at (candidatesTo candidatesMost candidates) (now (words .entry)) ⌝ }
+    ensures back { λ _. ⌜ candidatesOf (candidatesTo candidatesMost candidates) ≡ candidates ⌝ }
 {
     let mut i: usize = 0;
-    while i < 8 {
+    while i < CANDIDATES_MOST {
         let candidate = candidates[i];
         let row = candidate_words(candidate);
         put(words, at + i * 5, &row);

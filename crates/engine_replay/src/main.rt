@@ -15,6 +15,7 @@ ghost use lib.ListN.{length};
 ghost use mathlib.Core.Bool.{cond};
 ghost use mathlib.Core.Path.{_≡_};
 ghost use Rattle.engine_replay.specs.Lines.{agreementWith, inAll, lineBytes};
+ghost use Rattle.hexadecimal.specs.Hexadecimal.{listMost};
 use answers::Agreement;
 use answers::Answers;
 use answers::agreement_with;
@@ -52,7 +53,7 @@ fn main() {
 
 // One state and one index for all sessions, one after the other.
 fn replay(list: &[u8]) -> Tally
-    requires { ⌜ length (now list) ≤ 65536 ⌝ }
+    requires { ⌜ length (now list) ≤ listMost ⌝ }
 {
     let mut state = [0u64; STATE_WORDS];
     let mut fine = [0.0f32; FINE];
@@ -78,7 +79,7 @@ fn replay_in(
     fine_energy: &mut [f64],
     coarse_energy: &mut [f64],
 ) -> Tally
-    requires { ⌜ length (now list) ≤ 65536 ⌝ }
+    requires { ⌜ length (now list) ≤ listMost ⌝ }
 {
     let mut at = 0usize;
     let mut session = 0usize;
@@ -144,7 +145,7 @@ fn differs_at(
     fine_energy: &mut [f64],
     coarse_energy: &mut [f64],
 ) -> usize
-    requires { ⌜ at + lineBytes ≤ length (now list) ⌝ ∗ ⌜ session ≤ at ⌝ ∗ ⌜ length (now list) ≤ 65536 ⌝ }
+    requires { ⌜ at + lineBytes ≤ length (now list) ⌝ ∗ ⌜ session ≤ at ⌝ ∗ ⌜ length (now list) ≤ listMost ⌝ }
     ensures { λ r. ⌜ r ≤ 1 ⌝ }
 {
     let end = at + LINE;

@@ -3,6 +3,7 @@ use Prim.Native.Nat.{ℕ, _+_}
 use mathlib.Core.Path.{_≡_, refl, ap, _∙_}
 use mathlib.Core.List.{List, [], _∷_, _++_}
 use lib.ListN.{length, length-append}
+use Rattle.matcher_spec.specs.Limits.{candidatesMost}
 use Rattle.engine_spec.specs.declared.types.Diagnostics.{Diagnostics}
 use Rattle.engine_spec.specs.declared.types.SpectralDiagnostics.{SpectralDiagnostics}
 use Rattle.engine_spec.specs.declared.types.CandidateDiagnostics.{CandidateDiagnostics}
@@ -40,7 +41,7 @@ pub spectral-long : (s : SpectralDiagnostics) → length (spectralWords s) ≡ 9
 unfolding spectralWords
 spectral-long s = refl
 
-pub candidates-long : (l : List CandidateDiagnostics) → length (candidatesTo 8 l) ≡ 40
+pub candidates-long : (l : List CandidateDiagnostics) → length (candidatesTo candidatesMost l) ≡ 40
 unfolding candidatesTo candidateWords
 candidates-long l = refl
 
@@ -52,7 +53,7 @@ pub diagnostics-long : (d : Diagnostics) → length (diagnosticsWords d) ≡ 61
 unfolding diagnosticsWords
 diagnostics-long d =
     let n = diagnosticsNumbers d in
-    let c = candidatesTo 8 (d .candidates) in
+    let c = candidatesTo candidatesMost (d .candidates) in
     both-long (n ++ c) (spectralWords (d .spectral)) (both-long n c (numbers-long d) (candidates-long (d .candidates))) (spectral-long (d .spectral))
 
 pub shown-long : (s : Snapshot) → length (shownWords s) ≡ 76

@@ -16,7 +16,11 @@ unfoldable pub wordFrom : ℕ → List ℕ → Word
 wordFrom n [] = Is n
 wordFrom n (byte ∷ bytes) = cond (eqb (digitOf byte) 16) Malformed (wordFrom (n * 16 + digitOf byte) bytes)
 
--- ---- lines of words
+-- ---- lists of lines
+-- The bytes of a list, at most: as many as a program that replays one reads (io's large buffer).
+abbrev pub listMost : ℕ
+listMost = 65536
+
 -- the digits of a word, and its bytes with the one after it
 abbrev pub digits : ℕ
 digits = 16

@@ -34,6 +34,7 @@ use Rattle.matcher_spec.specs.declared.types.Candidate.{Candidate}
 use Rattle.matcher_spec.specs.declared.types.MatchResult.{MatchResult}
 use Rattle.matcher_spec.specs.declared.types.Reference.{Reference}
 use Rattle.matcher_spec.proofs.CandidateLaws.{listed-result, result-listed}
+use Rattle.matcher_spec.specs.Limits.{framesMost}
 use Rattle.matcher_picks.specs.Picks.{pickedOf}
 use Rattle.matcher_picks.specs.declared.peaks.Picked.{Picked}
 use Rattle.matcher_picks.proofs.ResultLaws.{listed-picked}
@@ -256,7 +257,7 @@ at-most-cap cap x f = go (lt x cap) (lt→le x cap)
     go false h = le-self cap f
 
 -- what is at most m and not below `low` has a count that is so too
-pub counts-within : (m : ℕ) (low : Float) {high : Float} (x : Float) → m ≤ 65535 → high ≡ atMost (real m) x → le low high ≡ true → (countOf low ≤ countOf high) × (countOf high ≤ m)
+pub counts-within : (m : ℕ) (low : Float) {high : Float} (x : Float) → m ≤ framesMost → high ≡ atMost (real m) x → le low high ≡ true → (countOf low ≤ countOf high) × (countOf high ≤ m)
 counts-within m low {high} x small e h =
     let fits : m ≤ 2 ^ 53 = omega arith in
     (count-monotone low high (subst T (sym h) tt), rw e (count-at-most m fits (atMost (real m) x) (at-most-cap (real m) x (whole-finite m fits))))

@@ -11,6 +11,7 @@ use matcher_bands::energy::whole_energies;
 use matcher_picks::peaks::first_maximum;
 use matcher_scores::scores::correlations;
 use matcher_scores::scores::score_part;
+use matcher_spec::constants::RECENT_MS;
 use matcher_spec::types::Candidate;
 use matcher_spec::types::Reference;
 use numbers::counts::saturating_sub;
@@ -127,7 +128,7 @@ fn candidate_of(
     let peak = best.at;
     let index = low + peak;
     let half = n / 2;
-    let recent = saturating_sub(n, count(1000.0 / hop));
+    let recent = saturating_sub(n, count(RECENT_MS / hop));
     Candidate {
         offset_ms: reference.start_ms + (real(index) + fraction_at(scores, peak)) * hop - start,
         score: best.score,

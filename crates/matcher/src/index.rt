@@ -6,7 +6,7 @@ ghost use mathlib.Core.List.{_++_};
 ghost use mathlib.Core.Path.{_≡_};
 ghost use Rattle.matcher_spec.specs.Energy.{allAverages, allEnergies, Holds};
 ghost use Rattle.matcher_spec.specs.Index.{acceptsReference, filled, fineValues, matcherOf};
-ghost use Rattle.matcher_spec.specs.Centring.{wideHop};
+ghost use Rattle.matcher_spec.specs.Centring.{radiusMost, wideHop};
 use matcher_bands::centring::centre_bands;
 use matcher_bands::centring::radius;
 use matcher_bands::energy::fill_energies;
@@ -31,7 +31,7 @@ fn fill_fine(
     n: usize,
     radius: usize,
 )
-    requires { ⌜ 0 < bands ⌝ ∗ ⌜ 0 < n ⌝ ∗ ⌜ radius ≤ 250 ⌝ ∗ ⌜ bands * n ≤ length (now values) ⌝ }
+    requires { ⌜ 0 < bands ⌝ ∗ ⌜ 0 < n ⌝ ∗ ⌜ radius ≤ radiusMost ⌝ ∗ ⌜ bands * n ≤ length (now values) ⌝ }
     requires { ⌜ bands * n ≤ length (now fine) ⌝ ∗ ⌜ bands * (n + 1) ≤ length (now energy) ⌝ }
     ensures { λ _. ⌜ now (fine .exit) ≡ fineValues radius bands n (now (values .entry)) ++ drop (bands * n) (now (fine .entry)) ⌝ }
     ensures { λ _. ⌜ now (energy .exit) ≡ allEnergies bands n (fineValues radius bands n (now (values .entry))) ++ drop (bands * (n + 1)) (now (energy .entry)) ⌝ }

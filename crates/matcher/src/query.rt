@@ -4,7 +4,7 @@ ghost use lib.ListN.{length, take};
 ghost use mathlib.Core.Bool.{true};
 ghost use mathlib.Core.Path.{_≡_};
 ghost use Rattle.matcher_spec.specs.Energy.{allEnergies};
-ghost use Rattle.matcher_spec.specs.Centring.{wideHop};
+ghost use Rattle.matcher_spec.specs.Centring.{radiusMost, wideHop};
 ghost use Rattle.matcher_spec.specs.Search.{FilledQuery, queryValues, searchable, InRange, WorkRoom};
 ghost use Rattle.matcher_spec.specs.Features.{features};
 use matcher_bands::centring::centre_bands;
@@ -66,7 +66,7 @@ fn centre_query(
     frames: usize,
     radius: usize,
 )
-    requires { ⌜ 0 < bands ⌝ ∗ ⌜ 2 * radius < frames ⌝ ∗ ⌜ radius ≤ 250 ⌝ ∗ ⌜ bands * frames ≤ length (now values) ⌝ }
+    requires { ⌜ 0 < bands ⌝ ∗ ⌜ 2 * radius < frames ⌝ ∗ ⌜ radius ≤ radiusMost ⌝ ∗ ⌜ bands * frames ≤ length (now values) ⌝ }
     requires { ⌜ bands * frames ≤ length (now query) ⌝ ∗ ⌜ bands * (frames + 1) ≤ length (now energy) ⌝ }
     ensures { λ _. ⌜ take (bands * (frames - 2 * radius)) (now (query .exit)) ≡ queryValues radius bands frames (now (values .entry)) ⌝ }
     ensures { λ _. ⌜ take (bands * (frames - 2 * radius + 1)) (now (energy .exit)) ≡ allEnergies bands (frames - 2 * radius) (queryValues radius bands frames (now (values .entry))) ⌝ }

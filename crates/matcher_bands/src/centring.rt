@@ -6,8 +6,9 @@ ghost use lib.ListN.{drop, getD, length, take};
 ghost use mathlib.Core.List.{_++_};
 ghost use mathlib.Core.Path.{_≡_};
 ghost use Rattle.matcher_bands.specs.Centring.{lastOr, prefixSums};
-ghost use Rattle.matcher_spec.specs.Centring.{centred, centredAt, contextFrames, meanAround, radius};
+ghost use Rattle.matcher_spec.specs.Centring.{centred, centredAt, contextFrames, meanAround, radius, radiusMost};
 ghost use Rattle.numbers_spec.specs.Rows.{logsOf, row, rows, tabulate};
+use matcher_spec::constants::CONTEXT_MS;
 use numbers::counts::min;
 use numbers::counts::saturating_sub;
 use numbers::float::at_least;
@@ -22,7 +23,7 @@ use numbers_rows::ln_1p_row::ln_1p_row;
 pub fn context_frames(hop: f64) -> f64
     ensures { λ r. ⌜ r ≡ contextFrames hop ⌝ }
 {
-    round(250.0 / hop)
+    round(CONTEXT_MS / hop)
 }
 
 // The radius: 250 ms in frames, at least 1.
@@ -51,7 +52,7 @@ fn fill_sums(sums: &mut [f64], values: &[f32])
 // The mean over the frames around i, by the prefix sums. `first` and `last` are the values at the
 // ends, which stand in for what lies past them.
 fn mean_around(sums: &[f64], first: f32, last: f32, radius: usize, i: usize) -> f32
-    requires { ⌜ i + 1 < length (now sums) ⌝ ∗ ⌜ radius ≤ 250 ⌝ }
+    requires { ⌜ i + 1 < length (now sums) ⌝ ∗ ⌜ radius ≤ radiusMost ⌝ }
     ensures { λ r. ⌜ r ≡ meanAround (λ (k : ℕ). getD (now (sums .entry)) k nan) (length (now (sums .entry)) - 1) first last radius i ⌝ }
 {
     let past = i + radius + 1;
@@ -66,7 +67,7 @@ fn mean_around(sums: &[f64], first: f32, last: f32, radius: usize, i: usize) -> 
 // The mean over the frames around i where they lie within the row, as nearly all do. No value is
 // repeated then, and what that adds is the same for each i.
 fn mean_inside(sums: &[f64], first: f32, last: f32, radius: usize, i: usize) -> f32
-    requires { ⌜ radius ≤ i ⌝ ∗ ⌜ i + radius + 1 < length (now sums) ⌝ ∗ ⌜ radius ≤ 250 ⌝ }
+    requires { ⌜ radius ≤ i ⌝ ∗ ⌜ i + radius + 1 < length (now sums) ⌝ ∗ ⌜ radius ≤ radiusMost ⌝ }
     ensures { λ r. ⌜ r ≡ meanAround (λ (k : ℕ). getD (now (sums .entry)) k nan) (length (now (sums .entry)) - 1) first last radius i ⌝ }
 {
     let sum = sums[i + radius + 1] - sums[i - radius];
@@ -77,7 +78,7 @@ fn mean_inside(sums: &[f64], first: f32, last: f32, radius: usize, i: usize) -> 
 
 // The mean over the frames around i where they may reach past an end.
 fn mean_at_end(sums: &[f64], first: f32, last: f32, radius: usize, i: usize) -> f32
-    requires { ⌜ i + 1 < length (now sums) ⌝ ∗ ⌜ radius ≤ 250 ⌝ }
+    requires { ⌜ i + 1 < length (now sums) ⌝ ∗ ⌜ radius ≤ radiusMost ⌝ }
     ensures { λ r. ⌜ r ≡ meanAround (λ (k : ℕ). getD (now (sums .entry)) k nan) (length (now (sums .entry)) - 1) first last radius i ⌝ }
 {
     let n = sums.len() - 1;
@@ -92,7 +93,7 @@ fn mean_at_end(sums: &[f64], first: f32, last: f32, radius: usize, i: usize) -> 
 // Replaces `count` values at the row's front: place i gets the centred value of frame `from` + i.
 // The row holds logs, and `sums` their prefix sums.
 fn centre(row: &mut [f32], sums: &[f64], radius: usize, from: usize, count: usize)
-    requires { ⌜ length (now sums) ≡ length (now row) + 1 ⌝ ∗ ⌜ radius ≤ 250 ⌝ ∗ ⌜ from + count ≤ length (now row) ⌝ ∗ ⌜ 0 < length (now row) ⌝ }
+    requires { ⌜ length (now sums) ≡ length (now row) + 1 ⌝ ∗ ⌜ radius ≤ radiusMost ⌝ ∗ ⌜ from + count ≤ length (now row) ⌝ ∗ ⌜ 0 < length (now row) ⌝ }
     requires { ⌜ now sums ≡ prefixSums (now row) ⌝ }
     ensures { λ _. ⌜ now (row .exit) ≡ tabulate (λ (i : ℕ). centredAt radius (now (row .entry)) (from + i)) count ++ drop count (now (row .entry)) ⌝ }
 {
@@ -109,7 +110,7 @@ fn centre(row: &mut [f32], sums: &[f64], radius: usize, from: usize, count: usiz
 // Centres a row of logs: `count` of its frames from `from` on, at the row's front. The other logs
 // stay, and `sums` holds the prefix sums of all.
 fn centre_band(row: &mut [f32], sums: &mut [f64], radius: usize, from: usize, count: usize)
-    requires { ⌜ length (now sums) ≡ length (now row) + 1 ⌝ ∗ ⌜ radius ≤ 250 ⌝ ∗ ⌜ from + count ≤ length (now row) ⌝ ∗ ⌜ 0 < length (now row) ⌝ }
+    requires { ⌜ length (now sums) ≡ length (now row) + 1 ⌝ ∗ ⌜ radius ≤ radiusMost ⌝ ∗ ⌜ from + count ≤ length (now row) ⌝ ∗ ⌜ 0 < length (now row) ⌝ }
     ensures { λ _. ⌜ now (row .exit) ≡ tabulate (λ (i : ℕ). centredAt radius (now (row .entry)) (from + i)) count ++ drop count (now (row .entry)) ⌝ }
     ensures { λ _. ⌜ now (sums .exit) ≡ prefixSums (now (row .entry)) ⌝ }
 {
@@ -131,7 +132,7 @@ pub fn centre_bands(
     count: usize,
 )
     requires { ⌜ bands * frames ≤ length (now values) ⌝ ∗ ⌜ bands * count + (frames - count) ≤ length (now out) ⌝ ∗ ⌜ length (now sums) ≡ frames + 1 ⌝ }
-    requires { ⌜ 0 < frames ⌝ ∗ ⌜ radius ≤ 250 ⌝ ∗ ⌜ from + count ≤ frames ⌝ }
+    requires { ⌜ 0 < frames ⌝ ∗ ⌜ radius ≤ radiusMost ⌝ ∗ ⌜ from + count ≤ frames ⌝ }
     ensures { λ _. ⌜ take (bands * count) (now (out .exit)) ≡ rows (λ (b : ℕ). take count (drop from (centred radius (row frames (now (values .entry)) b)))) bands ⌝ }
     ensures { λ _. ⌜ take (frames - count) (drop (bands * count) (now (out .exit))) ≡ lastOr (take (frames - count) (now (out .entry))) (λ (b : ℕ). drop count (logsOf (row frames (now (values .entry)) b))) bands ⌝ }
     ensures { λ _. ⌜ drop (bands * count + (frames - count)) (now (out .exit)) ≡ drop (bands * count + (frames - count)) (now (out .entry)) ⌝ }

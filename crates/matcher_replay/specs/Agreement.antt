@@ -107,10 +107,6 @@ agreesOf line = cond (isSmall (caseOf line)) (saysOf line (answersOf (caseOf lin
 abbrev pub lineBytes : ℕ
 lineBytes = 14 * spaced
 
--- The bytes of a list, at most: as many as the program reads.
-abbrev pub listMost : ℕ
-listMost = 65536
-
 -- The first line of what is left is whole and agrees.
 unfoldable pub firstAgrees : List ℕ → Bool
 firstAgrees list = cond (ltb (length list) lineBytes) false (agreesOf (take lineBytes list))

@@ -1,6 +1,7 @@
 // One word for many floats: the bits of all of them, in order.
 ghost use mathlib.Core.Path.{_≡_};
 ghost use Rattle.matcher_replay.specs.Digests.{withAll, withCandidate, withCandidates, withFloat};
+use matcher_spec::limits::CANDIDATES_MOST;
 use matcher_spec::types::Candidate;
 use matcher_spec::types::MatchResult;
 
@@ -8,9 +9,6 @@ use matcher_spec::types::MatchResult;
 const TURN: u64 = 0x200;
 
 const REST: u64 = 0x80_0000_0000_0000;
-
-// The candidates of a result, behind the last one blanks.
-const CANDIDATES: usize = 8;
 
 // The word so far, with x taken in. A NaN counts as one pattern.
 fn with(word: u64, x: f64) -> u64
@@ -56,14 +54,14 @@ fn with_candidate(word: u64, c: Candidate) -> u64
     with(halved, c.recent_score)
 }
 
-// Those of each candidate of a result.
+// Those of all candidates of a result, the blank ones behind the last too.
 pub fn of_result(result: MatchResult) -> u64
     ensures { λ r. ⌜ r ≡ withCandidates 0 (result .candidates) ⌝ }
 {
     let candidates = result.candidates;
     let mut word = 0u64;
     let mut i = 0usize;
-    while i < CANDIDATES {
+    while i < CANDIDATES_MOST {
         word = with_candidate(word, candidates[i]);
         i += 1;
     }

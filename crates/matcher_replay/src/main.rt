@@ -11,7 +11,8 @@ ghost use Prim.Native.Nat.{_≤_};
 ghost use lib.ListN.{drop, length};
 ghost use mathlib.Core.Bool.{cond};
 ghost use mathlib.Core.Path.{_≡_};
-ghost use Rattle.matcher_replay.specs.Agreement.{agreesOf, differing, firstAgrees, lineBytes, lines, listMost};
+ghost use Rattle.matcher_replay.specs.Agreement.{agreesOf, differing, firstAgrees, lineBytes, lines};
+ghost use Rattle.hexadecimal.specs.Hexadecimal.{listMost};
 
 // The bytes of a line.
 const LINE: usize = 14 * hexadecimal::SPACED;

@@ -1,6 +1,6 @@
 -- A candidate's numbers are finite and bounded: what specs/CandidateBounds.antt says. Assumes nothing.
 use mathlib.Core.Path.{_≡_, refl}
-use Prim.Native.Nat.{ℕ, _+_, _-_, _*_, _/_, _^_, _≤_, _<_}
+use Prim.Native.Nat.{ℕ, suc, _+_, _-_, _*_, _/_, _^_, _≤_, _<_}
 use native.Mathlib.Nat.{le-refl}
 use native.Mathlib.Omega.{arith}
 use mathlib.Core.Bool.{false, cond, _&&_}
@@ -34,7 +34,7 @@ use Rattle.matcher_spec.proofs.Bounds.{holds, widened, widened-to}
 use Rattle.matcher_spec.proofs.PeakLaws.{first-maximum}
 use Rattle.matcher_spec.proofs.RowAccess.{every-tabulate}
 use Rattle.matcher_spec.proofs.ScoreBounds.{real-within, correlation-within, score-part-within}
-use Rattle.matcher_spec.specs.Limits.{framesMost, farthest, trackMost}
+use Rattle.matcher_spec.specs.Limits.{framesMost, hopLeast, hopMost, farthest, trackMost}
 
 -- ---- bounds
 pub within-modest : WithinModest
@@ -145,16 +145,21 @@ one-counts : countOf one ≡ 1
 unfolding toUnsigned
 one-counts = refl
 
-module _ (x : Reference) (start : Float) (τ : Timed x start) where
-  hop-at-most : AtMost recentMs (x .«hop_ms»)
-  hop-at-most = between-at-most recentMs (x .«hop_ms»)
-      (record { from = le-transitive (neg recentMs) one (x .«hop_ms») (unfold le lt eq neg ofBits ofFields odd trailingZeros in tt) (τ .hop .from); to = τ .hop .to })
+-- No place and fraction lie more milliseconds behind a reference's start: a frame more than the most, of the largest hop.
+abbrev longest : ℕ
+longest = suc framesMost * 1000
 
+module _ (x : Reference) (start : Float) (τ : Timed x start) where
+  hop-at-most : AtMost hopMost (x .«hop_ms»)
+  hop-at-most = between-at-most hopMost (x .«hop_ms»)
+      (record { from = le-transitive (neg hopMost) hopLeast (x .«hop_ms») (unfold le lt eq neg ofBits ofFields odd trailingZeros in tt) (τ .hop .from); to = τ .hop .to })
+
+  -- 1,000 is 125 × 2^3
   hop-within : Within 125 3 (x .«hop_ms»)
   unfolding ofBits ofFields odd trailingZeros
   hop-within = at-most-within 125 3 (x .«hop_ms») hop-at-most
 
-  -- the recent part has a frame at least
+  -- the recent part has a frame at least: the largest hop is recentMs
   recent-some : 1 ≤ countOf (recentMs ⊘ x .«hop_ms»)
   recent-some =
       rw one-counts at
@@ -166,19 +171,19 @@ module _ (x : Reference) (start : Float) (τ : Timed x start) where
   -- the offset of a place and a fraction
   offset-within : (index : ℕ) (f : Float) → index ≤ framesMost → AtMost half f → Within 1 41 (x .«start_ms» ⊕ (real index ⊕ f) ⊗ x .«hop_ms» ⊖ start)
   offset-within index f h F =
-      widened-to (farthest + 65536000 + farthest) (farthest + 65536000 + farthest) 0 1 41 _ (le-refl (farthest + 65536000 + farthest)) tt
-      (sub-within binary64 (farthest + 65536000) (farthest) 0 _ start (holds binary64 _ (farthest + 65536000 + farthest) 0 (le-refl (farthest + 65536000 + farthest)) tt tt)
-      (add-within binary64 (farthest) 65536000 0 (x .«start_ms») _ (holds binary64 _ (farthest + 65536000) 0 (le-refl (farthest + 65536000)) tt tt) (τ .reference-start) way)
+      widened-to (farthest + longest + farthest) (farthest + longest + farthest) 0 1 41 _ (le-refl (farthest + longest + farthest)) tt
+      (sub-within binary64 (farthest + longest) (farthest) 0 _ start (holds binary64 _ (farthest + longest + farthest) 0 (le-refl (farthest + longest + farthest)) tt tt)
+      (add-within binary64 (farthest) longest 0 (x .«start_ms») _ (holds binary64 _ (farthest + longest) 0 (le-refl (farthest + longest)) tt tt) (τ .reference-start) way)
       (τ .query-start))
     where
       beside : Within 1 0 f
       beside = at-most-within 1 0 f (le-transitive (magnitude f) half one F (unfold le lt eq ofBits ofFields odd trailingZeros in tt))
 
-      place : Within 65536 0 (real index ⊕ f)
-      place = widened-to (index + 1) 65536 0 65536 0 (real index ⊕ f) (omega arith) tt (add-within binary64 index 1 0 (real index) f (holds binary64 (index + 1) 65536 0 (omega arith) tt tt) (real-within index h) beside)
+      place : Within (suc framesMost) 0 (real index ⊕ f)
+      place = widened-to (index + 1) (suc framesMost) 0 (suc framesMost) 0 (real index ⊕ f) (omega arith) tt (add-within binary64 index 1 0 (real index) f (holds binary64 (index + 1) (suc framesMost) 0 (omega arith) tt tt) (real-within index h) beside)
 
-      way : Within 65536000 0 ((real index ⊕ f) ⊗ x .«hop_ms»)
-      way = widened-to (65536 * 125) (65536 * 125) 3 65536000 0 _ (le-refl (65536 * 125)) tt (mul-within binary64 65536 125 0 3 (real index ⊕ f) (x .«hop_ms») (holds binary64 _ (65536 * 125) 3 (le-refl (65536 * 125)) tt tt) place hop-within)
+      way : Within longest 0 ((real index ⊕ f) ⊗ x .«hop_ms»)
+      way = widened-to (suc framesMost * 125) (suc framesMost * 125) 3 longest 0 _ (le-refl (suc framesMost * 125)) tt (mul-within binary64 (suc framesMost) 125 0 3 (real index ⊕ f) (x .«hop_ms») (holds binary64 _ (suc framesMost * 125) 3 (le-refl (suc framesMost * 125)) tt tt) place hop-within)
 
 pub candidate-of-sound : CandidateOfSound
 unfolding candidateOf

@@ -12,9 +12,9 @@ use Rattle.numbers_spec.proofs.CountLaws.{count-at-most}
 use Rattle.numbers_spec.proofs.Order.{le-self, positive-above}
 use Rattle.numbers_spec.proofs.Products.{div-mono}
 use Rattle.numbers_spec.proofs.WholeLaws.{round-laws}
-use Rattle.matcher_spec.specs.Centring.{contextMs, contextFrames, radius, wideHop}
+use Rattle.matcher_spec.specs.Centring.{contextMs, contextFrames, radius, radiusMost, wideHop}
 
-frames-of-one : contextFrames one ≡ real 250
+frames-of-one : contextFrames one ≡ real radiusMost
 unfolding contextFrames wholeNearest div ofBits ofInt round units size
 frames-of-one = refl
 
@@ -22,7 +22,7 @@ quotient-small : (hop : Float) → T (finite hop) → T (le one hop) → T (le (
 unfolding ofBits
 quotient-small hop f h = div-mono binary64 contextMs contextMs hop one tt tt (positive-above one hop tt f h) tt (unfold lt le in tt) (le-self contextMs tt) h
 
-frames-small : (hop : Float) → T (le one hop) → T (le (contextFrames hop) (real 250))
+frames-small : (hop : Float) → T (le one hop) → T (le (contextFrames hop) (real radiusMost))
 frames-small nan h = absurd (unfold le in h)
 frames-small (inf true) h = absurd (unfold le in h)
 frames-small (inf false) h = unfold contextFrames wholeNearest div ofBits ofInt round units size lt le in tt
@@ -33,8 +33,8 @@ either-small : (b : Bool) (x y c : Float) → T (le x c) → T (le y c) → T (l
 either-small true x y c p q = p
 either-small false x y c p q = q
 
-pub radius-small : (hop : Float) → wideHop hop ≡ true → radius hop ≤ 250
+pub radius-small : (hop : Float) → wideHop hop ≡ true → radius hop ≤ radiusMost
 unfolding radius
 radius-small hop h =
     let small = frames-small hop (subst T (sym h) tt) in
-    count-at-most 250 (omega arith) (atLeast one (contextFrames hop)) (either-small (lt one (contextFrames hop)) (contextFrames hop) one (real 250) small (unfold ofInt round units size lt le in tt))
+    count-at-most radiusMost (omega arith) (atLeast one (contextFrames hop)) (either-small (lt one (contextFrames hop)) (contextFrames hop) one (real radiusMost) small (unfold ofInt round units size lt le in tt))

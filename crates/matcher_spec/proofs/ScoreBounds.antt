@@ -291,20 +291,20 @@ module _ (bands : ℕ) (some : 1 ≤ bands) (few : bands ≤ bandsMost) where
   bands-large = one→size (real bands) bands-finite (real-large bands some)
 
   bands-hold : Holds binary64 bands 34
-  bands-hold = holds binary64 bands 64 34 few tt tt
+  bands-hold = holds binary64 bands bandsMost 34 few tt tt
 
 pub correlation-within : CorrelationWithin
 unfolding correlationAt
 correlation-within bands n count values query C start h =
-    widened-to (bands * 1) 64 34 1 40 _ (omega arith) tt
-    (mul-within binary64 bands 1 34 0 _ (one ⊘ real bands) (holds binary64 (bands * 1) 64 34 (omega arith) tt tt)
+    widened-to (bands * 1) bandsMost 34 1 40 _ (omega arith) tt
+    (mul-within binary64 bands 1 34 0 _ (one ⊘ real bands) (holds binary64 (bands * 1) bandsMost 34 (omega arith) tt tt)
     (sum-to-within _ bands 34 (bands-hold bands (C .some) (C .few)) (λ b w. term-within bands n count values query C start b h w))
     (div-within binary64 1 0 0 one (real bands) (holds binary64 1 1 0 (omega arith) tt tt) one-within (bands-finite bands (C .some) (C .few)) (bands-large bands (C .some) (C .few))))
 
 pub score-part-within : ScorePartWithin
 unfolding scorePart
 score-part-within bands n count values query C start low high u k h =
-    widened-to bands 64 34 1 40 _ (C .few) tt
+    widened-to bands bandsMost 34 1 40 _ (C .few) tt
     (div-within binary64 bands 34 0 _ (real bands) (bands-hold bands (C .some) (C .few))
     (sum-to-within _ bands 34 (bands-hold bands (C .some) (C .few)) (λ b w. part-within bands n count values query C start low high b u k h w))
     (bands-finite bands (C .some) (C .few)) (bands-large bands (C .some) (C .few)))

@@ -14,7 +14,7 @@ use Rattle.numbers_spec.proofs.Value.{finite-no-nan}
 use Rattle.numbers_spec.specs.Values.{Within}
 use Rattle.matcher_spec.specs.Timeline.{regular, validValues}
 use Rattle.numbers_spec.specs.Rows.{row, Every}
-use Rattle.matcher_spec.specs.Centring.{radius}
+use Rattle.matcher_spec.specs.Centring.{radius, radiusMost}
 use Rattle.matcher_spec.specs.Energy.{allAverages, withEnergies}
 use Rattle.matcher_spec.specs.Index.{Matcher, acceptsReference, fineValues, matcherOf}
 use Rattle.matcher_spec.specs.Candidates.{blank}
@@ -62,7 +62,7 @@ module _ (hop : Float) (bands : ℕ) (times values : List Float) (G : GoodRefere
   unfolding acceptsReference
   reference-valid = and-true-r (ltb 0 bands) (validValues values) (and-true-r (regular hop times) (ltb 0 bands && validValues values) (G .accepted))
 
-  radius-few : radius hop ≤ 250
+  radius-few : radius hop ≤ radiusMost
   radius-few = radius-small hop (T-is (le one hop) (G .hop-between .from))
 
   fine-small : SmallBands bands (length times) (fineValues (radius hop) bands (length times) values)

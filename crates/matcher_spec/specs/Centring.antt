@@ -8,9 +8,10 @@ use Rattle.numbers_spec.specs.Arithmetic.{_⊕_, _⊖_, _⊗_, _⊘_, one, atLe
 use Rattle.numbers_spec.specs.Narrow.{nearestF32}
 use Rattle.numbers_spec.specs.Whole.{wholeNearest}
 use Rattle.numbers_spec.specs.Rows.{tabulate, sumTo, logsOf}
+use Rattle.matcher_spec.specs.Limits.{hopLeast}
 
 -- ---- the radius
--- 250
+-- 250 milliseconds before a frame, and as many after it.
 abbrev pub contextMs : Float
 contextMs = ofBits binary64 0x406f400000000000
 
@@ -22,9 +23,13 @@ contextFrames hop = wholeNearest (contextMs ⊘ hop)
 unfoldable pub radius : Float → ℕ
 radius hop = countOf (atLeast one (contextFrames hop))
 
+-- No radius is larger: at the least hop, 1, it is 250 (`radius-small` of proofs/RadiusLaw).
+abbrev pub radiusMost : ℕ
+radiusMost = 250
+
 -- A hop that opening accepts is 1 or more. (At most 1,000 too, which nothing here needs.)
 abbrev pub wideHop : Float → Bool
-wideHop hop = le one hop
+wideHop hop = le hopLeast hop
 
 -- ---- a band's row
 -- The f32 logarithm of 1 + v, of each value.

@@ -118,10 +118,6 @@ agreesOf (read.Whole f input answer) = eqb (toBits binary64 (replyOf f (ofBits b
 abbrev pub lineBytes : ℕ
 lineBytes = 41
 
--- the bytes of a list, at most: as many as the program reads
-abbrev pub listMost : ℕ
-listMost = 65536
-
 -- the first line of what is left is whole and agrees
 unfoldable pub firstAgrees : List ℕ → Bool
 firstAgrees list = cond (ltb (length list) lineBytes) false (agreesOf (readOf (take lineBytes list)))

@@ -10,7 +10,8 @@ ghost use lib.ListN.{drop, length};
 ghost use Prim.Native.Nat.{_≤_};
 ghost use mathlib.Core.Bool.{cond};
 ghost use mathlib.Core.Path.{_≡_};
-ghost use Rattle.numbers_replay.specs.Cases.{differing, firstAgrees, lines, listMost};
+ghost use Rattle.numbers_replay.specs.Cases.{differing, firstAgrees, lines};
+ghost use Rattle.hexadecimal.specs.Hexadecimal.{listMost};
 
 // The bytes of a line.
 const LINE: usize = 41;

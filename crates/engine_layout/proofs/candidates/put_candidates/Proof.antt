@@ -5,6 +5,7 @@ use native.Mathlib.Numerals.{add-one}
 use lib.ListN.{length, getD}
 use native.Mathlib.Omega.{arith}
 use borrow.Author.Needs.{needs}
+use Rattle.matcher_spec.specs.Limits.{candidatesMost}
 use Rattle.engine_spec.specs.declared.types.CandidateDiagnostics.{CandidateDiagnostics}
 use Rattle.engine_layout.specs.Layout.{candidateOf}
 use Rattle.engine_layout.specs.Written.{noCandidate, candidatesTo, candidateWords}
@@ -14,7 +15,7 @@ use Rattle.engine_layout.proofs.candidates.put_candidates.Statement.{st
 use Rattle.engine_layout.proofs.candidates.put_candidates.Tie as tie
 
 abbrev Inv-loop : tie.InvT-loop
-Inv-loop words₀ at candidates i₀ words i = (i ≤ 8) × (length words ≡ length words₀) × Laid at (i * 5) (candidatesTo i candidates) words₀ words × BackTo i candidates
+Inv-loop words₀ at candidates i₀ words i = (i ≤ candidatesMost) × (length words ≡ length words₀) × Laid at (i * 5) (candidatesTo i candidates) words₀ words × BackTo i candidates
 
 abbrev μ-loop : tie.MeasureT-loop
 μ-loop words₀ at candidates i₀ words i = 8 - i

@@ -5,6 +5,7 @@ use Prim.Native.Nat.{ℕ, _+_, _≤_}
 use mathlib.Core.List.{List, _++_}
 use mathlib.Core.Path.{_≡_, refl, sym, ap, _∙_}
 use borrow.Author.Needs.{needs}
+use Rattle.matcher_spec.specs.Limits.{candidatesMost}
 use Rattle.engine_layout.specs.Written.{diagnosticsNumbers, diagnosticsWords, candidatesTo, spectralWords}
 use Rattle.engine_layout.specs.Layout.{diagnosticsWith, spectralOf}
 use Rattle.engine_layout.proofs.Laws.{Laid, first-laid, next-laid}
@@ -22,9 +23,9 @@ returns c =
     let numbers = c .before .before .before .before .before .before .before .before .before .before .before .before .before .before .before .before .before .diagnostics-words in
     let spectral = c .before .before .before .before .before .spectral-words in
     let l1 : Laid (a .at) 12 (diagnosticsNumbers (a .d)) w0 (c .before .before .before .before .before .before .before .before .before .before .before .before .before .before .put .last .0) = first-laid (numbers .ensures .0) (numbers-long (a .d)) (c .before .before .before .before .before .before .before .before .before .before .before .before .before .before .put .ensures) in
-    let l2 : Laid (a .at) 52 (diagnosticsNumbers (a .d) ++ candidatesTo 8 (a .d .candidates)) w0 (c .before .before .before .before .before .before .before .before .before .put-candidates .last .0) =
+    let l2 : Laid (a .at) 52 (diagnosticsNumbers (a .d) ++ candidatesTo candidatesMost (a .d .candidates)) w0 (c .before .before .before .before .before .before .before .before .before .put-candidates .last .0) =
     next-laid l1 refl (candidates-long (a .d .candidates)) refl (omega arith) (c .before .before .before .before .before .before .before .before .before .put-candidates .ensures .0) in
-    let l3 : Laid (a .at) 61 (diagnosticsNumbers (a .d) ++ candidatesTo 8 (a .d .candidates) ++ spectralWords (a .d .spectral)) w0 (c .before .before .put2 .last .0) =
+    let l3 : Laid (a .at) 61 (diagnosticsNumbers (a .d) ++ candidatesTo candidatesMost (a .d .candidates) ++ spectralWords (a .d .spectral)) w0 (c .before .before .put2 .last .0) =
     next-laid l2 (spectral .ensures .0) (spectral-long (a .d .spectral)) refl (omega arith) (c .before .before .put2 .ensures) in
     let bn : diagnosticsWith (diagnosticsNumbers (a .d)) (a .d .candidates) (a .d .spectral) ≡ a .d =
     ap (λ (r : List ℕ). diagnosticsWith r (a .d .candidates) (a .d .spectral)) (sym (numbers .ensures .0)) ∙ numbers .ensures .1 in

@@ -1,7 +1,7 @@
 -- `matcher::whole::whole_candidates` meets its contract: the averages, their energies and the scores stand behind the query. Assumes nothing.
 use borrow.Author.Needs.{needs}
 use mathlib.Core.Path.{_≡_, sym, ap, _∙_}
-use Prim.Native.Nat.{ℕ, _+_, _-_, _*_, _/_, _^_, _≤_, _<_}
+use Prim.Native.Nat.{ℕ, suc, _+_, _-_, _*_, _/_, _^_, _≤_, _<_}
 use native.Mathlib.Nat.{mul-le-mul-left, le-trans}
 use native.Mathlib.Omega.{arith}
 use mathlib.Core.List.{List}
@@ -11,6 +11,7 @@ use lib.Seq.{length-take-le}
 use Rattle.matcher_spec.specs.Energy.{bandsOf}
 use Rattle.matcher_spec.specs.Index.{lentBands}
 use Rattle.matcher_spec.specs.Search.{coarseScores}
+use Rattle.matcher_spec.specs.Limits.{framesMost}
 use Rattle.matcher.proofs.SearchLaws.{independent-few, lent-is, whole-made}
 use Rattle.matcher.proofs.whole.whole_candidates.Statement.{statement}
 use Rattle.matcher.proofs.whole.whole_candidates.Tie as tie
@@ -55,7 +56,7 @@ candidates-around-requires c κs =
     let kept : length v ≡ length (a .work32 .now) = scored .kept .1 .1 .1 .1 .0 in
     let long : length e ≡ length (a .work64 .now) = scored .kept .1 .1 .1 .1 .1 .0 in
     let query : end ≤ length (take end v) = omega (arith, length-take-le end v (omega arith)) in
-    let few : length (take (from + places - from) (drop from e)) ≤ 65536 = simp length-take (omega arith) in
+    let few : length (take (from + places - from) (drop from e)) ≤ suc framesMost = simp length-take (omega arith) in
     let found = c .before .before .before .before .pick-peaks .ensures in
     (p .0, (found .1 .0, (record { value-room = simp length-take (omega arith); energy-room = simp length-take (omega arith) }, (query, (omega arith, (omega arith, λ k. le-trans (found .1 .1 k) few))))))
 
