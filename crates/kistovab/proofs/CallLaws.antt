@@ -14,7 +14,7 @@ use Rattle.engine_spec.specs.Windows.{rereads}
 use Rattle.matcher_spec.specs.Features.{Features}
 use Rattle.engine_spec.specs.Refusals.{Submission, numberOf, refuses, unless, nearOrNotFinite, validConfiguration, hopInRange, countsInRange, indexFits, openingRefusal, submissionRefusal}
 use Rattle.numbers_spec.specs.Rows.{every}
-use Rattle.engine_spec.specs.Opening.{opening}
+use Rattle.engine_spec.specs.Opening.{opening, openedIndex}
 use Rattle.engine_spec.specs.Submitting.{refused, reread, computedFrom, decisionOn, answeredFrom, submit}
 use Rattle.engine_spec.specs.Guarantee.{isComputed}
 use Rattle.engine_spec.proofs.Submissions.{clash, refusal-struck}
@@ -78,19 +78,11 @@ opened-answer c hop reference x =
     (or-opened (every nearOrNotFinite (reference .times)) answer.ReferenceTimeTooFar r6 refl
     (or-opened (indexFits (length (reference .times)) (reference .bands) x) answer.IndexTooShort answer.Opened refl (λ k. refl))))))
 
-pub opened-zero : (c : Configuration) (hop : Float) (reference : Features) (x : Index) {o : OpenResult} → o ≡ opening c hop reference x → refuses (o .answer) ≡ false → codeOf (o .answer) ≡ 0
+opened-zero : (c : Configuration) (hop : Float) (reference : Features) (x : Index) {o : OpenResult} → o ≡ opening c hop reference x → refuses (o .answer) ≡ false → codeOf (o .answer) ≡ 0
 unfolding opening codeOf
 opened-zero c hop reference x {o} e h =
     ap (λ (y : OpenResult). codeOf (y .answer)) e
     ∙ ap codeOf (opened-answer c hop reference x (ap (λ (y : OpenResult). refuses (y .answer)) (sym e) ∙ h))
-
-pub open-code : (n : ℕ) {code : ℕ} {o p : OpenResult} → ltb n stateWords ≡ false → code ≡ codeOf (o .answer) → o ≡ p → code ≡ openCode n p
-unfolding openCode
-open-code n q e s = simp q (e ∙ ap (λ (y : OpenResult). codeOf (y .answer)) s)
-
-pub index-after : (n : ℕ) (old : Index) {new opened : Index} → ltb n stateWords ≡ false → new ≡ opened → new ≡ indexAfter n opened old
-unfolding indexAfter
-index-after n old q e = simp q e
 
 pub short-code : (n : ℕ) (o : OpenResult) → ltb n stateWords ≡ true → wordsTooShort ≡ openCode n o
 unfolding openCode
@@ -103,14 +95,31 @@ short-index n opened old q = simp q
 pub short-opens : (o : OpenResult) (state : List ℕ) → Opens wordsTooShort o state state
 short-opens o state = record { held = λ h. absurd (omega arith); untouched = λ h. refl; tail = refl }
 
-pub refused-opens : {code : ℕ} {o p : OpenResult} (state : List ℕ) → code ≡ codeOf (o .answer) → o ≡ p → refuses (o .answer) ≡ true → Opens code p state state
-refused-opens {o = o} state c e h = record { held = λ z. absurd (omega (arith, c, refusal-code (o .answer) h .0)); untouched = λ z. refl; tail = refl }
+-- The opening that the code made, with words enough for the state: what it answers, what the words and the index hold after it, and the guarantee.
+module _ (c : Configuration) (hop : Float) (reference : Features) (x : Index) (state : List ℕ) (long : ltb (length state) stateWords ≡ false) where
+  abbrev Opening : ℕ → List ℕ → Index → Type 0
+  Opening code words index =
+      (code ≡ openCode (length state) (opening c hop reference x))
+      × (Opens code (opening c hop reference x) state words
+      × ((index ≡ indexAfter (length state) (openedIndex c hop reference x) x) × (code ≡ 0 → Guaranteed c hop reference index (opening c hop reference x))))
 
-pub opened-opens : {code : ℕ} {o p : OpenResult} {state new : List ℕ} → code ≡ 0 → o ≡ p → stateIn new ≡ o .engine → drop stateWords new ≡ drop stateWords state → Opens code p state new
-opened-opens z e h t = record { held = λ y. h ∙ ap (λ (x : OpenResult). x .engine) e; untouched = λ y. absurd (omega arith); tail = t }
+  module _ (index : Index) {o : OpenResult} {code : ℕ} (made : (o ≡ opening c hop reference x) × ((index ≡ openedIndex c hop reference x) × Guaranteed c hop reference index o)) (e : code ≡ codeOf (o .answer)) where
+    opening-made : {words : List ℕ} → Opens code o state words → Opening code words index
+    unfolding openCode indexAfter
+    opening-made {words} w = (
+      simp long (e ∙ ap (λ (y : OpenResult). codeOf (y .answer)) (made .0)),
+      (subst (λ (y : OpenResult). Opens code y state words) (made .0) w, (simp long (made .1 .0), λ h. subst (λ (y : OpenResult). Guaranteed c hop reference index y) (made .0) (made .1 .1))),
+    )
 
-pub guaranteed-of : {c : Configuration} {hop : Float} {reference : Features} {x : Index} {o p : OpenResult} → o ≡ p → Guaranteed c hop reference x o → Guaranteed c hop reference x p
-guaranteed-of {c} {hop} {reference} {x} e g = subst (λ (y : OpenResult). Guaranteed c hop reference x y) e g
+    -- refused, the words as they were
+    pub refused-made : refuses (o .answer) ≡ true → Opening code state index
+    refused-made h = opening-made (record { held = λ z. absurd (omega (arith, e, refusal-code (o .answer) h .0)); untouched = λ z. refl; tail = refl })
+
+    -- not refused, the words hold the engine
+    pub opened-made : {words : List ℕ} → refuses (o .answer) ≡ false → stateIn words ≡ o .engine → drop stateWords words ≡ drop stateWords state → Opening code words index
+    opened-made r h t =
+        let zero : code ≡ 0 = e ∙ opened-zero c hop reference x (made .0) r in
+        opening-made (record { held = λ z. h; untouched = λ z. absurd (omega (arith, zero)); tail = t })
 
 -- ---- submission: its three ways
 pub data Way (e : Engine) (s : SubmitResult) : Type 0 where
