@@ -1,6 +1,7 @@
 -- `engine_lock::search::with_track` meets its contract. Assumes nothing.
 use borrow.Author.Needs.{needs}
 use mathlib.Core.Path.{_∙_}
+use lib.ListN.{length}
 use Rattle.engine_spec.specs.Windows.{matcherIn}
 use Rattle.matcher_spec.specs.Index.{lent}
 use Rattle.engine_spec.specs.Lent.{window}
@@ -25,9 +26,9 @@ tracked-requires c κs =
 then-whole-requires : tie.Need-then-whole-requires
 then-whole-requires c κs =
     let p = c .before .before .before .before .before .before .before .before .before .before .before .before .before .before .before .before .before .before .before .before .before .before .before .before .before .before .before .pre in
-    let filled = c .before .before .before .before .before .before .before .before .before .before .before .before .fill-query .kept in
+    let filled = c .before .before .before .before .before .before .before .before .before .before .before .before .fill-query in
     let found = c .before .before .before .before .before .tracked in
-    (room-kept (filled .1 .1 .1 .1 .0) (found .kept .1 .1 .1 .1 .1 .1 .1 .1 .1 .1 .1 .1 .0 ∙ filled .1 .1 .1 .1 .1 .0) (p .0), (p .1, (found .ensures .1 .0, (λ h. found .ensures .1 .1))))
+    (room-kept (filled .kept .1 .1 .1 .1 .0) (_∙_ {b = length (filled .last .1 .1 .1 .1 .1 .0)} (found .kept .1 .1 .1 .1 .1 .1 .1 .1 .1 .1 .1 .1 .0) (filled .kept .1 .1 .1 .1 .1 .0)) (p .0), (p .1, (found .ensures .1 .0, (λ h. found .ensures .1 .1))))
 
 same-length : tie.Need-same-length
 same-length c = c .before .before .before .before .then-whole .kept .1 .1 .1 .1 .1 .1 .1 .1 .1 .1 .1 .1 .1 .1 .0 ∙ c .before .before .before .before .before .before .before .before .before .before .before .before .before .before .before .before .before .fill-query .kept .1 .1 .1 .1 .0
