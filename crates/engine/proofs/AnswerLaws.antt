@@ -1,11 +1,17 @@
 -- Submission by its cases. Assumes nothing.
 use mathlib.Core.Bool.{Bool, true, false, cond, _&&_}
+use mathlib.Core.List.{[]}
 use mathlib.Core.Path.{_≡_, refl, sym, ap, _∙_}
-use Rattle.engine_spec.specs.Windows.{Window, endpointOf, rereads}
+use Rattle.matcher_spec.specs.Index.{lent}
+use Rattle.engine_spec.specs.Lent.{handed}
+use Rattle.engine_spec.specs.Windows.{Window, matcherIn, endpointOf, rereads}
 use Rattle.engine_spec.specs.Refusals.{Submission, numberOf, refuses, submissionRefusal}
+use Rattle.engine_spec.specs.Locking.{Reached}
 use Rattle.engine_spec.specs.Publishing as publishing
-use Rattle.engine_spec.specs.Submitting.{submit, refused, reread, moved, computedFrom, decisionOn, answeredFrom}
+use Rattle.engine_spec.specs.Submitting.{submit, refused, reread, moved, lockFrom, reachedBy, computedFrom, decisionOn, answeredFrom}
+use Rattle.engine_spec.specs.declared.types.Lock.{Lock}
 use Rattle.engine_spec.specs.declared.types.Engine.{Engine}
+use Rattle.engine_spec.specs.declared.types.SubmitResult.{SubmitResult}
 use Rattle.engine_spec.specs.declared.types.Answer.{Answer}
 use Rattle.engine_spec.specs.declared.types.Answer.the-variants as answer
 use Rattle.engine_spec.specs.declared.types.Estimate.{Estimate}
@@ -36,36 +42,38 @@ reread-ending e w =
     }
 
 module _ (e : Engine) (i : Submission) where
-  pub submit-refused : {r : Answer} → r ≡ submissionRefusal e i → refuses r ≡ true → refused e r ≡ submit e i
-  unfolding submit
-  submit-refused q h =
-      let p : refuses (submissionRefusal e i) ≡ true = sym (ap refuses q) ∙ h in
-      let t : refused e (submissionRefusal e i) ≡ submit e i = rw p refl in
-      ap (λ (x : Answer). refused e x) q ∙ t
+  abbrev refusal : Answer
+  refusal = submissionRefusal e i
 
-  pub submit-answered : {r : Answer} → r ≡ submissionRefusal e i → refuses r ≡ false → answeredFrom e i ≡ submit e i
-  unfolding submit answeredFrom
-  submit-answered q h =
-      let p : refuses (submissionRefusal e i) ≡ false = sym (ap refuses q) ∙ h in
-      rw p refl
+  pub submit-refused : {r : Answer} {made : SubmitResult} → made ≡ refused e r → r ≡ refusal → refuses refusal ≡ true → made ≡ submit e i
+  unfolding submit
+  submit-refused g q p = rw p (g ∙ ap (λ (x : Answer). refused e x) q)
+
+  pub submit-answered : {made : SubmitResult} → made ≡ answeredFrom e i → refuses refusal ≡ false → made ≡ submit e i
+  unfolding submit
+  submit-answered g p = rw p g
+
+  -- whether the last snapshot is read again
+  abbrev again : Bool
+  again = e .last .«has_snapshot» && rereads (e .settings) (e .last .«endpoint_ms») (i .window)
 
   -- what is answered is no refusal
-  pub answered-unrefused : refuses (answeredFrom e i .answer) ≡ false
+  pub answered-unrefused : {made : SubmitResult} → made ≡ answeredFrom e i → refuses (made .answer) ≡ false
   unfolding answeredFrom reread computedFrom numberOf
-  answered-unrefused = go (e .last .«has_snapshot» && rereads (e .settings) (e .last .«endpoint_ms») (i .window))
+  answered-unrefused g = ap (λ (s : SubmitResult). refuses (s .answer)) g ∙ go again
     where
       go : (b : Bool) → refuses (cond b (reread e (i .window)) (computedFrom e i (decisionOn e i)) .answer) ≡ false
       go true = refl
       go false = refl
 
-  pub answers-computed : {d : publishing.Decision} → e .last .«has_snapshot» && rereads (e .settings) (e .last .«endpoint_ms») (i .window) ≡ false → d ≡ decisionOn e i → computedFrom e i d ≡ answeredFrom e i
-  unfolding answeredFrom
-  answers-computed h f =
-      let t : computedFrom e i (decisionOn e i) ≡ answeredFrom e i = rw h refl in
-      ap (λ (x : publishing.Decision). computedFrom e i x) f ∙ t
+  -- the state after a decision reads no more of a submission than its window and clock
+  pub answers-computed : {b : Bool} {k : Reached} {l : Lock} {d : publishing.Decision} {made : SubmitResult} → made ≡ computedFrom e (handed (lent [] [] [] []) (i .window) (i .clock) 0 0) d → b ≡ again → b ≡ false
+      → k ≡ reachedBy (e .milestones) → l ≡ lockFrom e (i .window) → d ≡ publishing.decide (e .settings) (matcherIn (e .settings) (i .index)) (i .window) k l → made ≡ answeredFrom e i
+  unfolding answeredFrom decisionOn computedFrom
+  answers-computed g q h k l f =
+      let d = f ∙ (λ j. publishing.decide (e .settings) (matcherIn (e .settings) (i .index)) (i .window) (k j) (l j)) in
+      rw (sym q ∙ h) (g ∙ ap (λ (x : publishing.Decision). computedFrom e i x) d)
 
-  pub answers-again : e .last .«has_snapshot» && rereads (e .settings) (e .last .«endpoint_ms») (i .window) ≡ true → reread e (endingAt (endpointOf (i .window))) ≡ answeredFrom e i
+  pub answers-again : {b : Bool} {made : SubmitResult} → made ≡ reread e (endingAt (endpointOf (i .window))) → b ≡ again → b ≡ true → made ≡ answeredFrom e i
   unfolding answeredFrom
-  answers-again h =
-      let t : reread e (i .window) ≡ answeredFrom e i = rw h refl in
-      reread-ending e (i .window) ∙ t
+  answers-again g q h = rw (sym q ∙ h) (g ∙ reread-ending e (i .window))

@@ -69,14 +69,9 @@ module _ (c : Configuration) (hop : Float) (reference : Features) (x : Index) wh
   abbrev refusal : Answer
   refusal = openingRefusal c hop reference x
 
-  -- what the code's test for a refusal says of the definition
-  pub refusal-tested : {r : Answer} {b z : Bool} → r ≡ refusal → b ≡ refuses r → b ≡ z → refuses refusal ≡ z
-  refusal-tested q e t = sym (e ∙ ap refuses q) ∙ t
-
-  pub opening-refused : {r : Answer} {e : Engine} → r ≡ refusal → e ≡ noEngine → refuses r ≡ true → _≡_ {A = OpenResult} record { answer = r; engine = e } (opening c hop reference x)
+  pub opening-refused : {r : Answer} {e : Engine} → r ≡ refusal → e ≡ noEngine → refuses refusal ≡ true → _≡_ {A = OpenResult} record { answer = r; engine = e } (opening c hop reference x)
   unfolding opening
-  opening-refused q g h =
-      let p : refuses refusal ≡ true = sym (ap refuses q) ∙ h in
+  opening-refused q g p =
       let t : noEngine ≡ cond (refuses refusal) noEngine (freshEngine (openedSettings c hop reference)) = rw p refl in
       λ i. record { answer = q i; engine = (g ∙ t) i }
 
@@ -121,11 +116,11 @@ module _ (c : Configuration) (hop : Float) (reference : Features) where
   pub fresh-without : {b : Bool} {s : Settings} → s ≡ withoutIndex c hop → b ≡ false → freshEngine s ≡ freshEngine (cond b (withIndex c hop reference) (withoutIndex c hop))
   fresh-without q e = rw (e, q) refl
 
-pub accepted-frames : (hop : Float) (reference : Features) → acceptsFeatures hop reference ≡ true → 0 < length (reference .times)
+pub accepted-frames : (hop : Float) (reference : Features) {b : Bool} → b ≡ acceptsFeatures hop reference → b ≡ true → 0 < length (reference .times)
 unfolding acceptsReference regular
-accepted-frames hop reference e =
+accepted-frames hop reference q e =
     let n = length (reference .times) in
-    let t = subst T (sym e) tt in
+    let t = subst T (sym e ∙ q) tt in
     let r = and-l (regular hop (reference .times)) (ltb 0 (reference .bands) && validValues (reference .values)) t in
     let k : 1 < n = ltb→lt 1 n (and-l (ltb 1 n) ((finite hop && (lt zero⁺ hop && finite (getD (reference .times) 0 nan))) && allTo (λ (i : ℕ). onTime hop (reference .times) (suc i)) (n - 1)) r) in
     omega arith

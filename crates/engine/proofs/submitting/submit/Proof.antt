@@ -1,12 +1,12 @@
 -- `engine::submitting::submit` meets its contract: refused, or answered. Assumes nothing.
 use mathlib.Core.Bool.{true≢false}
-use mathlib.Core.Path.{refl, sym, ap, _∙_}
+use mathlib.Core.Path.{refl, sym, _∙_}
 use borrow.Author.Needs.{needs}
 use lib.ListN.{length}
-use Rattle.engine_spec.specs.Refusals.{refuses, Submission}
-use Rattle.engine_spec.specs.declared.types.SubmitResult.{SubmitResult}
+use Rattle.engine_spec.specs.Refusals.{Submission, submissionRefusal}
 use Rattle.matcher_spec.specs.Index.{lent}
 use Rattle.engine_spec.specs.Lent.{window, handed}
+use Rattle.engine.proofs.RefusalLaw.{refusal-tested}
 use Rattle.engine.proofs.RoomLaw.{room}
 use Rattle.engine.proofs.AnswerLaws.{submit-refused, submit-answered, answered-unrefused}
 use Rattle.engine.proofs.submitting.submit.Statement.{statement}
@@ -19,8 +19,8 @@ returns c =
     let x = lent (a .fine .now) (a .coarse .now) (a .fine-energy .now) (a .coarse-energy .now) in
     let w = window (a .bands) (a .times .now) (a .energies .now) (a .values .now) in
     let i : Submission = handed x w (a .clock) (length (a .work32 .now)) (length (a .work64 .now)) in
-    let same = c .refused .ensures ∙ submit-refused (a .engine) i (asked .submission-refusal .ensures) (sym (c .before .before .is-refusal .ensures) ∙ c .before .if1 .taken) in
-    (same, ((λ h. (refl, refl)), ((refl, refl), (λ k u. asked .before .before .before .shared-slice-known7 .given k))))
+    let tested = refusal-tested (submissionRefusal (a .engine) i) (asked .submission-refusal .ensures) (c .before .before .is-refusal .ensures) (c .before .if1 .taken) in
+    (submit-refused (a .engine) i (c .refused .ensures) (asked .submission-refusal .ensures) tested, ((λ h. (refl, refl)), ((refl, refl), (λ k u. asked .before .before .before .shared-slice-known7 .given k))))
 
 answered-requires : tie.Need-answered-requires
 answered-requires c κs =
@@ -29,7 +29,7 @@ answered-requires c κs =
     let x = lent (a .fine .now) (a .coarse .now) (a .fine-energy .now) (a .coarse-energy .now) in
     let w = window (a .bands) (a .times .now) (a .energies .now) (a .values .now) in
     let i : Submission = handed x w (a .clock) (length (a .work32 .now)) (length (a .work64 .now)) in
-    room (a .engine) i (ap refuses (sym (asked .submission-refusal .ensures)) ∙ sym (c .before .before .before .is-refusal .ensures) ∙ c .before .before .if1 .left)
+    room (a .engine) i (refusal-tested (submissionRefusal (a .engine) i) (asked .submission-refusal .ensures) (c .before .before .before .is-refusal .ensures) (c .before .before .if1 .left))
 
 returns-2 : tie.Need-returns-2
 returns-2 c =
@@ -39,10 +39,9 @@ returns-2 c =
     let x = lent (a .fine .now) (a .coarse .now) (a .fine-energy .now) (a .coarse-energy .now) in
     let w = window (a .bands) (a .times .now) (a .energies .now) (a .values .now) in
     let i : Submission = handed x w (a .clock) (length (a .work32 .now)) (length (a .work64 .now)) in
-    let same = done .answered .ensures ∙ submit-answered (a .engine) i (asked .submission-refusal .ensures) (sym (done .before .before .before .before .is-refusal .ensures) ∙ done .before .before .before .if1 .left) in
-    let answered = ap (λ (s : SubmitResult). refuses (s .answer)) (done .answered .ensures) ∙ answered-unrefused (a .engine) i in
+    let none = refusal-tested (submissionRefusal (a .engine) i) (asked .submission-refusal .ensures) (done .before .before .before .before .is-refusal .ensures) (done .before .before .before .if1 .left) in
     let kept = done .answered .kept .1 .1 .1 .1 .1 .1 .1 .1 .1 .1 in
-    (same, ((λ h. absurd (true≢false (sym h ∙ answered))), ((kept .0, kept .1 .0), (λ k u. asked .before .before .before .shared-slice-known7 .given k))))
+    (submit-answered (a .engine) i (done .answered .ensures) none, ((λ h. absurd (true≢false (sym h ∙ answered-unrefused (a .engine) i (done .answered .ensures)))), ((kept .0, kept .1 .0), (λ k u. asked .before .before .before .shared-slice-known7 .given k))))
 
 pub submit-spec : {M : Type 1} → statement M
 submit-spec =
