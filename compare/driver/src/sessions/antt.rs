@@ -16,7 +16,7 @@ pub fn file_name(recorded: &Recorded) -> String {
 
 pub fn text(recorded: &Recorded) -> String {
     let session = &recorded.session;
-    let film = &session.reference;
+    let reference = &session.reference;
     let mut text = HEAD.to_string();
     let mut define = |name: String, kind: &str, body: String| {
         text += &format!("\nabbrev pub {name} : {kind}\n{name} = {body}\n");
@@ -24,10 +24,12 @@ pub fn text(recorded: &Recorded) -> String {
     let configuration = configuration(&session.configuration);
     define("configuration".into(), "Configuration", configuration);
     define("hop".into(), "Float", wide(session.hop));
-    let (times, values) = (list(&film.times, wide), list(&film.values, narrow));
-    let fields = format!("bands = {}; times = {times}; values = {values}", film.bands);
-    define("film".into(), "Soundtrack", record(&fields));
-    let index = "openedIndex configuration hop film (roomFor film)";
+    let times = list(&reference.times, wide);
+    let values = list(&reference.values, narrow);
+    let bands = reference.bands;
+    let fields = format!("bands = {bands}; times = {times}; values = {values}");
+    define("reference".into(), "Features", record(&fields));
+    let index = "openedIndex configuration hop reference (roomFor reference)";
     define("index".into(), "Index", index.into());
     let turns = session.submissions.iter().zip(&recorded.outcomes);
     for (n, (submission, outcome)) in (1..).zip(turns) {
@@ -39,13 +41,13 @@ pub fn text(recorded: &Recorded) -> String {
                 snapshot(&answer.snapshot),
             );
         }
-        let handed = handed(submission, n, film.times.len());
+        let handed = handed(submission, n, reference.times.len());
         let fields = format!("submission = {handed}; reply = {}", reply(outcome, n));
         define(format!("turn{n}"), "Turn", record(&fields));
     }
     let numbers: Vec<usize> = (1..=recorded.outcomes.len()).collect();
     let turns = list(&numbers, |n| format!("turn{n}"));
-    let fields = "configuration = configuration; hop = hop; film = film; turns = ";
+    let fields = "configuration = configuration; hop = hop; reference = reference; turns = ";
     define(
         "session".into(),
         "Session",
@@ -70,8 +72,10 @@ const HEAD: &str = "\
 use mathlib.Core.Bool.{true, false}
 use mathlib.Core.List.{[], _∷_}
 use lib.IntN.{pos, negsuc}
-use lib.Ieee.{Float, fin, inf, nan}
-use Rattle.engine_spec.specs.Windows.{Soundtrack, Index, Window}
+use lib.Ieee.{Float, fin, inf}
+use Rattle.matcher_spec.specs.Index.{Index}
+use Rattle.engine_spec.specs.Windows.{Window}
+use Rattle.matcher_spec.specs.Features.{Features}
 use Rattle.engine_spec.specs.Opening.{openedIndex}
 use Rattle.engine_spec.specs.declared.types.Configuration.{Configuration}
 use Rattle.engine_spec.specs.declared.types.Snapshot.{Snapshot}
@@ -84,7 +88,7 @@ use Rattle.engine_spec.specs.declared.types.Maybe.the-variants as maybe
 use Rattle.engine_spec.specs.declared.types.Milestone.the-variants as milestone
 use Rattle.engine_spec.specs.declared.types.Hypothesis.the-variants as hypothesis
 use Rattle.engine_spec.specs.declared.types.Answer.the-variants as answer
-use Rattle.engine_sessions.specs.Session.{Session, Turn, roomFor, noIndex, heard, heardWithoutWork, eight, refusal, again, answered}
+use Rattle.engine_sessions.specs.Session.{Session, Turn, roomFor, heard, heardWithoutWork, eight, refusal, answered}
 ";
 
 // ---- what is handed in
