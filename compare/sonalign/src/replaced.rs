@@ -3,7 +3,7 @@
 //! that it gives, they answer NaN.
 //!
 //! They are inlined into the loops of matcher.rs and engine.rs, as a build in one codegen unit has
-//! them; cargo's default units would call `ln_1p` once a value.
+//! them; see "The comparison build" in compare/README.md.
 
 // The document gives decimals and bit patterns, and these are held to it, not to the library's
 // constants.
