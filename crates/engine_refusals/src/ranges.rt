@@ -50,7 +50,7 @@ pub fn is_hop(hop: f64) -> bool
     (HOP_LEAST <= hop) & (hop <= HOP_MOST)
 }
 
-// Whether all are.
+// Whether every time is near.
 pub fn are_near(times: &[f64]) -> bool
     ensures { λ r. ⌜ r ≡ every near (now (times .entry)) ⌝ }
 {
@@ -64,7 +64,7 @@ pub fn are_near(times: &[f64]) -> bool
     true
 }
 
-// Whether all are.
+// Whether every time is near or not finite.
 pub fn are_near_or_not_finite(times: &[f64]) -> bool
     ensures { λ r. ⌜ r ≡ every nearOrNotFinite (now (times .entry)) ⌝ }
 {
@@ -78,7 +78,7 @@ pub fn are_near_or_not_finite(times: &[f64]) -> bool
     true
 }
 
-// Whether all are.
+// Whether every number is a valid energy.
 pub fn are_valid_energies(energies: &[f64]) -> bool
     ensures { λ r. ⌜ r ≡ every validEnergy (now (energies .entry)) ⌝ }
 {
