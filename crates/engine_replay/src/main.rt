@@ -3,11 +3,8 @@
 // lowercase hexadecimal digits with a byte after each: 12 that make an opening (the first is 0) or a
 // submission (1), see `opening::Opening` and `submission::Submission`, then the three answers.
 mod answers;
-mod digest;
-mod faults;
 mod line;
 mod opening;
-mod sound;
 mod submission;
 
 ghost use Prim.Native.Nat.{_+_, _≤_};

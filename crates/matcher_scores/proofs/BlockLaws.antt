@@ -13,7 +13,7 @@ use Rattle.numbers_spec.proofs.RowLaws.{root-at, Filling, length-tabulate, tabu
 use Rattle.numbers_spec.specs.Rows.{rootsOf, tabulate}
 use Rattle.numbers_spec.specs.Root.{rootOf}
 use Rattle.matcher_spec.specs.Scores.{dot, bandTerm}
-use Rattle.matcher_scores.proofs.PartLaws.{rest, row-at, row-length, filling-part}
+use Rattle.numbers_spec.proofs.PartLaws.{rest, row-at, row-length, filling-part}
 
 -- ---- an element
 -- what is lent from i on is still as d has it

@@ -1,4 +1,1 @@
 pub mod BlockLaws
-pub mod PartLaws
-pub mod ScoreLaws
-pub mod TileLaws

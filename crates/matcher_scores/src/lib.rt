@@ -1,6 +1,4 @@
 // Scores of places: the loops that take nearly all of a search's time. Below the matcher, which
 // alone calls it.
 mod blocks;
-mod dot;
 pub mod scores;
-mod tiles;

@@ -6,7 +6,7 @@ use native.Mathlib.Omega.{arith}
 use lib.ListN.{length, length-take, length-drop}
 use lib.Seq.{length-take-le}
 use Rattle.numbers_spec.proofs.RowLaws.{Filling, filling-none, filling-all}
-use Rattle.matcher_scores.specs.Tiles.{block}
+use Rattle.matcher_scores.specs.Blocks.{block}
 use Rattle.matcher_scores.proofs.BlockLaws.{added, block-more}
 use Rattle.matcher_scores.proofs.scores.add_band.Statement.{statement}
 use Rattle.matcher_scores.proofs.scores.add_band.Tie as tie

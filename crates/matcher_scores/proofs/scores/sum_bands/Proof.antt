@@ -11,7 +11,7 @@ use Rattle.numbers_spec.specs.Rows.{tabulate, sumTo}
 use Rattle.matcher_spec.specs.Energy.{Bands, bandsOf}
 use Rattle.matcher_spec.specs.Scores.{termAt}
 use Rattle.numbers_spec.proofs.RowLaws.{tabulate-then, row-within}
-use Rattle.matcher_scores.specs.Tiles.{block}
+use Rattle.matcher_scores.specs.Blocks.{block}
 use Rattle.matcher_scores.proofs.scores.sum_bands.Statement.{statement}
 use Rattle.matcher_scores.proofs.scores.sum_bands.Tie as tie
 

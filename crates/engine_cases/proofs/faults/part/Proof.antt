@@ -1,0 +1,18 @@
+-- `engine_cases::faults::part` is safe: what it gives back is as long as it says. Assumes nothing.
+use mathlib.Core.Path.{sym}
+use native.Mathlib.Omega.{arith}
+use lib.Seq.{length-take-le}
+use borrow.Author.Needs.{needs}
+use Rattle.engine_cases.proofs.faults.part.Statement.{statement}
+use Rattle.engine_cases.proofs.faults.part.Tie as tie
+
+slice-aggregate-result : tie.Need-slice-aggregate-result
+slice-aggregate-result c = sym (length-take-le _ _ (omega arith))
+
+pub part-spec : {M : Type 1} → statement M
+part-spec =
+    tie.close
+    (tie.spec
+    slice-aggregate-result
+    (λ c. search needs)
+    (λ c. search needs))
