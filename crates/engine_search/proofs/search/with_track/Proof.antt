@@ -1,14 +1,14 @@
--- `engine_lock::search::with_track` meets its contract. Assumes nothing.
+-- `engine_search::search::with_track` meets its contract. Assumes nothing.
 use borrow.Author.Needs.{needs}
 use mathlib.Core.Path.{_∙_}
 use lib.ListN.{length}
 use Rattle.engine_spec.specs.Windows.{matcherIn}
 use Rattle.matcher_spec.specs.Index.{lent}
 use Rattle.engine_spec.specs.Lent.{window}
 use Rattle.engine_lock.specs.Views.{reachedIn}
-use Rattle.engine_lock.proofs.SearchLaws.{some-bands, room-kept, filled-of, by-track}
-use Rattle.engine_lock.proofs.search.with_track.Statement.{statement}
-use Rattle.engine_lock.proofs.search.with_track.Tie as tie
+use Rattle.engine_search.proofs.SearchLaws.{some-bands, room-kept, filled-of, by-track}
+use Rattle.engine_search.proofs.search.with_track.Statement.{statement}
+use Rattle.engine_search.proofs.search.with_track.Tie as tie
 
 fill-query-requires : tie.Need-fill-query-requires
 fill-query-requires c κs =

@@ -1,13 +1,13 @@
--- `engine_lock::search::searched` meets its contract. Assumes nothing.
+-- `engine_search::search::searched` meets its contract. Assumes nothing.
 use borrow.Author.Needs.{needs}
 use borrow.Author.Tests.{not-true}
 use mathlib.Core.Path.{sym, _∙_}
 use Rattle.engine_spec.specs.Windows.{matcherIn}
 use Rattle.matcher_spec.specs.Index.{lent}
 use Rattle.engine_spec.specs.Lent.{window}
-use Rattle.engine_lock.proofs.SearchLaws.{evidence-ending, untracked}
-use Rattle.engine_lock.proofs.search.searched.Statement.{statement}
-use Rattle.engine_lock.proofs.search.searched.Tie as tie
+use Rattle.engine_search.proofs.SearchLaws.{evidence-ending, untracked}
+use Rattle.engine_search.proofs.search.searched.Statement.{statement}
+use Rattle.engine_search.proofs.search.searched.Tie as tie
 
 without-track-requires : tie.Need-without-track-requires
 without-track-requires c κs =

@@ -1,14 +1,14 @@
--- `engine_lock::search::then_whole` meets its contract. Assumes nothing.
+-- `engine_search::search::then_whole` meets its contract. Assumes nothing.
 use borrow.Author.Needs.{needs}
 use borrow.Author.Tests.{not-true, not-false}
 use mathlib.Core.Path.{sym}
 use Rattle.engine_spec.specs.Windows.{matcherIn}
 use Rattle.matcher_spec.specs.Index.{lent}
 use Rattle.engine_spec.specs.Lent.{window}
 use Rattle.engine_lock.specs.Views.{reachedIn, trackedIn}
-use Rattle.engine_lock.proofs.SearchLaws.{some-bands, filled-of, whole-made}
-use Rattle.engine_lock.proofs.search.then_whole.Statement.{statement}
-use Rattle.engine_lock.proofs.search.then_whole.Tie as tie
+use Rattle.engine_search.proofs.SearchLaws.{some-bands, filled-of, whole-made}
+use Rattle.engine_search.proofs.search.then_whole.Statement.{statement}
+use Rattle.engine_search.proofs.search.then_whole.Tie as tie
 
 returns : tie.Need-returns
 returns c =

@@ -1,4 +1,4 @@
--- `engine_lock::search::without_track` meets its contract: without a track that may coast, tracking leaves none, which supports nothing. Assumes nothing.
+-- `engine_search::search::without_track` meets its contract: without a track that may coast, tracking leaves none, which supports nothing. Assumes nothing.
 use borrow.Author.Needs.{needs}
 use mathlib.Core.List.{List, []}
 use mathlib.Core.Path.{sym, ap, _∙_}
@@ -12,10 +12,10 @@ use Rattle.engine_spec.specs.Locking.{wholeDue}
 use Rattle.engine_spec.specs.declared.types.Hypothesis.the-variants as hypothesis
 use Rattle.matcher_spec.specs.Index.{lent}
 use Rattle.engine_spec.specs.Lent.{window}
 use Rattle.engine_lock.specs.Views.{reachedIn}
-use Rattle.engine_lock.proofs.SearchLaws.{some-bands, room-kept, filled-of, found-few, by-track}
-use Rattle.engine_lock.proofs.search.without_track.Statement.{statement}
-use Rattle.engine_lock.proofs.search.without_track.Tie as tie
+use Rattle.engine_search.proofs.SearchLaws.{some-bands, room-kept, filled-of, found-few, by-track}
+use Rattle.engine_search.proofs.search.without_track.Statement.{statement}
+use Rattle.engine_search.proofs.search.without_track.Tie as tie
 
 fill-if-requires : tie.Need-fill-if-requires
 fill-if-requires c κs =

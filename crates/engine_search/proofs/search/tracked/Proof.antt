@@ -1,4 +1,4 @@
--- `engine_lock::search::tracked` meets its contract. Assumes nothing.
+-- `engine_search::search::tracked` meets its contract. Assumes nothing.
 use borrow.Author.Needs.{needs}
 use borrow.Author.Tests.{not-true, not-false}
 use mathlib.Core.List.{List, []}
@@ -11,10 +11,10 @@ use Rattle.engine_spec.specs.Tracking.{tracked, unsupported}
 use Rattle.engine_spec.specs.declared.types.Hypothesis.the-variants as hypothesis
 use Rattle.matcher_spec.specs.Index.{lent}
 use Rattle.engine_spec.specs.Lent.{window}
-use Rattle.engine_lock.proofs.SearchLaws.{evidence-ending, some-bands, coasted, filled-of, found-few}
+use Rattle.engine_search.proofs.SearchLaws.{evidence-ending, some-bands, coasted, filled-of, found-few}
 use Rattle.engine_lock.proofs.LockLaws.{dropped}
-use Rattle.engine_lock.proofs.search.tracked.Statement.{statement}
-use Rattle.engine_lock.proofs.search.tracked.Tie as tie
+use Rattle.engine_search.proofs.search.tracked.Statement.{statement}
+use Rattle.engine_search.proofs.search.tracked.Tie as tie
 
 returns : tie.Need-returns
 returns c =

@@ -1,10 +1,10 @@
--- `engine_lock::search::is_coasting` meets its contract. Assumes nothing.
+-- `engine_search::search::is_coasting` meets its contract. Assumes nothing.
 use borrow.Author.Needs.{needs}
 use Prim.Native.Nat.{ℕ}
 use native.Mathlib.Omega.{arith}
 use mathlib.Core.Path.{_≡_, refl}
-use Rattle.engine_lock.proofs.search.is_coasting.Statement.{statement}
-use Rattle.engine_lock.proofs.search.is_coasting.Tie as tie
+use Rattle.engine_search.proofs.search.is_coasting.Statement.{statement}
+use Rattle.engine_search.proofs.search.is_coasting.Tie as tie
 
 returns : tie.Need-returns
 returns c = ((λ h. refl), (λ offset first last correlation h. let z : _≡_ {A = ℕ} 0 1 = cc in absurd (omega arith)))
