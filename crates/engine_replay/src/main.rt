@@ -2,24 +2,21 @@
 // list, on standard input, is made by `compare/run --engine-list`. A line is 15 words of 16
 // lowercase hexadecimal digits with a byte after each: 12 that make an opening (the first is 0) or a
 // submission (1), see `opening::Opening` and `submission::Submission`, then the three answers.
-mod answers;
-mod line;
-mod opening;
-mod submission;
-
 ghost use Prim.Native.Nat.{_+_, _≤_};
 ghost use lib.ListN.{length};
 ghost use mathlib.Core.Bool.{cond};
 ghost use mathlib.Core.Path.{_≡_};
-ghost use Rattle.engine_replay.specs.Lines.{agreementWith, inAll, lineBytes};
+ghost use Rattle.engine_lines.specs.Lines.{agreementWith, inAll, lineBytes};
 ghost use Rattle.hexadecimal.specs.Hexadecimal.{listMost};
-use answers::Agreement;
-use answers::Answers;
-use answers::agreement_with;
-use answers::agrees;
+use engine_lines::answers::Agreement;
+use engine_lines::answers::Answers;
+use engine_lines::answers::agreement_with;
+use engine_lines::answers::agrees;
+use engine_lines::line::LINE;
+use engine_lines::opening;
+use engine_lines::submission;
 use engine_words::states::STATE_WORDS;
 use hexadecimal::word_at;
-use line::LINE;
 
 // The index of the longest reference that is opened.
 const FINE: usize = opening::VALUES;

@@ -1,7 +1,7 @@
 // What is answered to a line, and whether the line says the same.
 ghost use lib.ListN.{length};
 ghost use mathlib.Core.Path.{_≡_};
-ghost use Rattle.engine_replay.specs.Lines.{agreementWith, inAll, lineBytes};
+ghost use Rattle.engine_lines.specs.Lines.{agreementWith, inAll, lineBytes};
 use hexadecimal::word_at;
 
 // The answer's number, a digest of the state after it, and one of what it shows: of an opening the

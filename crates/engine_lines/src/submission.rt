@@ -2,7 +2,7 @@
 ghost use Prim.Native.Nat.{_<_};
 ghost use lib.ListN.{length};
 ghost use mathlib.Core.Path.{_≡_};
-ghost use Rattle.engine_replay.specs.Lines.{lineBytes};
+ghost use Rattle.engine_lines.specs.Lines.{lineBytes};
 use crate::answers::Answers;
 use crate::line::count_at;
 use crate::line::float_at;

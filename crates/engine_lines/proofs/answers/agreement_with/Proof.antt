@@ -1,15 +1,15 @@
--- `engine_replay::answers::agreement_with` meets its contract. Assumes nothing.
+-- `engine_lines::answers::agreement_with` meets its contract. Assumes nothing.
 use mathlib.Core.Path.{_≡_}
 use mathlib.Core.List.{List}
 use Prim.Native.Nat.{ℕ}
 use lib.Dec.{eqb}
 use borrow.Author.Needs.{needs}
-use Rattle.engine_replay.specs.declared.answers.Agreement.{Agreement}
-use Rattle.engine_replay.specs.declared.answers.Answers.{Answers}
+use Rattle.engine_lines.specs.declared.answers.Agreement.{Agreement}
+use Rattle.engine_lines.specs.declared.answers.Answers.{Answers}
 use Rattle.hexadecimal.specs.Hexadecimal.{wordAt}
-use Rattle.engine_replay.specs.Lines.{agreementWith}
-use Rattle.engine_replay.proofs.answers.agreement_with.Statement.{statement}
-use Rattle.engine_replay.proofs.answers.agreement_with.Tie as tie
+use Rattle.engine_lines.specs.Lines.{agreementWith}
+use Rattle.engine_lines.proofs.answers.agreement_with.Statement.{statement}
+use Rattle.engine_lines.proofs.answers.agreement_with.Tie as tie
 
 by-words : (line : List ℕ) (found : Answers) (a s h : ℕ) → a ≡ wordAt 12 line → s ≡ wordAt 13 line → h ≡ wordAt 14 line → _≡_ {A = Agreement} (record { answer = eqb (found .answer) a; state = eqb (found .state) s; shown = eqb (found .shown) h }) (agreementWith line found)
 unfolding agreementWith

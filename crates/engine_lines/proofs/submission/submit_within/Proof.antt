@@ -1,10 +1,10 @@
--- `engine_replay::submission::submit_within` is safe: no more is lent than there is. Assumes nothing.
+-- `engine_lines::submission::submit_within` is safe: no more is lent than there is. Assumes nothing.
 use mathlib.Core.Path.{sym}
 use native.Mathlib.Omega.{arith}
 use lib.Seq.{length-take-le}
 use borrow.Author.Needs.{needs}
-use Rattle.engine_replay.proofs.submission.submit_within.Statement.{statement}
-use Rattle.engine_replay.proofs.submission.submit_within.Tie as tie
+use Rattle.engine_lines.proofs.submission.submit_within.Statement.{statement}
+use Rattle.engine_lines.proofs.submission.submit_within.Tie as tie
 
 slice-aggregate-kistovab-submit : tie.Need-slice-aggregate-kistovab-submit
 slice-aggregate-kistovab-submit c = sym (length-take-le _ _ (omega arith))

@@ -4,8 +4,8 @@ use mathlib.Core.Bool.{Bool, _&&_}
 use mathlib.Core.List.{List}
 use lib.Dec.{eqb}
 use Rattle.hexadecimal.specs.Hexadecimal.{spaced, wordAt}
-use Rattle.engine_replay.specs.declared.answers.Agreement.{Agreement}
-use Rattle.engine_replay.specs.declared.answers.Answers.{Answers}
+use Rattle.engine_lines.specs.declared.answers.Agreement.{Agreement}
+use Rattle.engine_lines.specs.declared.answers.Answers.{Answers}
 
 -- the words of a line, and its bytes
 abbrev pub lineWords : ℕ

@@ -2,7 +2,7 @@
 ghost use Prim.Native.Nat.{_<_};
 ghost use lib.ListN.{length};
 ghost use mathlib.Core.Path.{_≡_};
-ghost use Rattle.engine_replay.specs.Lines.{lineBytes, lineWords};
+ghost use Rattle.engine_lines.specs.Lines.{lineBytes, lineWords};
 use engine_layout::values::word_float;
 use hexadecimal::SPACED;
 use hexadecimal::word_at;
