@@ -6,6 +6,7 @@ use native.Mathlib.Omega.{arith}
 use mathlib.Core.Bool.{Bool, true, false, not, _&&_}
 use borrow.Author.Tests.{ltb-true, leb-true, eqb-true, not-true, not-false}
 use lib.Ieee.{Float}
+use Rattle.matcher_spec.proofs.Cases.{both}
 use Rattle.matcher_spec.specs.Centring.{wideHop}
 use Rattle.matcher_spec.specs.declared.types.Reference.{Reference}
 use Rattle.compare_exports.specs.MatcherCalls.{fitsLimits, fitsBands, fitsFillLengths, fitsWindow, fitsLocalLengths, fitsMargin}
@@ -21,10 +22,6 @@ passed {r} e h = sym e ∙ not-false r h
 
 pub failed : {r x : Bool} → r ≡ x → not r ≡ true → x ≡ false
 failed {r} e h = sym e ∙ not-true r h
-
-pub both : (a b : Bool) → a && b ≡ true → (a ≡ true) × (b ≡ true)
-both true b h = (refl, h)
-both false b h = (h, cc)
 
 -- A reference that fits.
 pub record Limits (bands frames : ℕ) (hop : Float) : Type 0 where

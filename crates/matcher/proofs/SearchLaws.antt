@@ -33,8 +33,9 @@ use Rattle.matcher_spec.specs.Timeline.{accepts, regular, validValues}
 use Rattle.matcher_spec.specs.declared.types.Candidate.{Candidate}
 use Rattle.matcher_spec.specs.declared.types.MatchResult.{MatchResult}
 use Rattle.matcher_spec.specs.declared.types.Reference.{Reference}
+use Rattle.matcher_spec.proofs.Cases.{and-true-l, and-true-r}
 use Rattle.matcher_spec.proofs.CandidateLaws.{listed-result, result-listed}
-use Rattle.matcher_spec.specs.Limits.{framesMost}
+use Rattle.matcher_spec.specs.Limits.{candidatesMost, framesMost}
 use Rattle.matcher_picks.specs.Picks.{pickedOf}
 use Rattle.matcher_picks.specs.declared.peaks.Picked.{Picked}
 use Rattle.matcher_picks.proofs.ResultLaws.{listed-picked}
@@ -101,23 +102,12 @@ module _ {A : Type 0} (p d : List A) {e : List A} (from k : ℕ) (q : e ≡ take
 pub front-and-rest : {A : Type 0} {p : List A} (e d : List A) (k : ℕ) → take k e ≡ p → drop k e ≡ drop k d → e ≡ p ++ drop k d
 front-and-rest e d k q s = sym (take-append-drop k e) ∙ (λ i. q i ++ s i)
 
--- lists that agree at a front agree at a shorter one
-pub shorter-front : {A : Type 0} (m k : ℕ) (x y : List A) → m ≤ k → take k x ≡ take k y → take m x ≡ take m y
-shorter-front m k x y h e = sym (take-take m k x h) ∙ ap (take m) e ∙ take-take m k y h
-
 -- what lies past a filled front does not see it
 pub drop-past : {A : Type 0} (x d : List A) (m k : ℕ) → length x ≡ m → m ≤ k → drop k (x ++ drop m d) ≡ drop k d
 drop-past x d m k l h =
     let e : k ≡ length x + (k - m) = omega arith in
     let s : m + (k - m) ≡ k = omega arith in
     ap (λ (j : ℕ). drop j (x ++ drop m d)) e ∙ drop-append-add x (drop m d) (k - m) ∙ drop-drop (k - m) m d ∙ ap (λ (j : ℕ). drop j d) s
-
--- the part that was lent from `at` on and came back can be read there
-pub put-read : {A : Type 0} (at k : ℕ) (d part : List A) → at ≤ length d → take (length part) (drop at (putMid at k d part)) ≡ part
-put-read at k d part h = ap (take (length part)) (drop-at (take at d) (part ++ postOf at k d) at (length-take-le at d h)) ∙ take-append-seam part (postOf at k d)
-
-pub put-is : {A : Type 0} (at k n : ℕ) (d part : List A) → at ≤ length d → length part ≡ n → take n (drop at (putMid at k d part)) ≡ part
-put-is at k n d part h e = ap (λ (j : ℕ). take j (drop at (putMid at k d part))) (sym e) ∙ put-read at k d part h
 
 -- the averages of the bands at the front of a list
 pub averages-of-front : (bands n : ℕ) (v : List Float) → bands * n ≤ length v → allAverages bands n v ≡ allAverages bands n (take (bands * n) v)
@@ -150,24 +140,16 @@ kept-rows r bands n v h = rows-ext _ _ bands (λ b w. ap (λ (k : ℕ). take (k 
     long b w = centred-length r (row n v b) ∙ simp (length-take, length-drop) (omega (arith, row-within b bands n w))
 
 -- ---- what is known where all of several tests hold
-pub and-left : (a b : Bool) → a && b ≡ true → a ≡ true
-and-left true b h = refl
-and-left false b h = h
-
-pub and-right : (a b : Bool) → a && b ≡ true → b ≡ true
-and-right true b h = h
-and-right false b h = let z : _≡_ {A = ℕ} 0 1 = cc in absurd (omega arith)
-
 pub and-last : (a b c d : Bool) → a && (b && (c && d)) ≡ true → d ≡ true
-and-last a b c d h = and-right c d (and-right b (c && d) (and-right a (b && (c && d)) h))
+and-last a b c d h = and-true-r c d (and-true-r b (c && d) (and-true-r a (b && (c && d)) h))
 
 -- an accepted reference has bands and frames
 pub accepted-room : (hop : Float) (bands : ℕ) (times values : List Float) → acceptsReference hop bands times values ≡ true → (0 < bands) × (1 < length times)
 unfolding acceptsReference regular
 accepted-room hop bands times values h =
     let rest = ltb 0 bands && validValues values in (
-      ltb-true 0 bands (and-left (ltb 0 bands) (validValues values) (and-right (regular hop times) rest h)),
-      ltb-true 1 (length times) (and-left (ltb 1 (length times)) _ (and-left (regular hop times) rest h)),
+      ltb-true 0 bands (and-true-l (ltb 0 bands) (validValues values) (and-true-r (regular hop times) rest h)),
+      ltb-true 1 (length times) (and-true-l (ltb 1 (length times)) _ (and-true-l (regular hop times) rest h)),
     )
 
 -- a window that is searchable has the reference's bands, more frames than centring takes away, and no more left than the reference has
@@ -180,8 +162,8 @@ searchable-room x w h =
     let timely = eqb (w .bands) (x .bands) && regular (x .«hop_ms») (w .times) in
     let fits = leb (frames - 2 * r) (x .frames) in
     let rest = validValues (w .values) && fits in (
-      eqb-true (w .bands) (x .bands) (and-left (eqb (w .bands) (x .bands)) (regular (x .«hop_ms») (w .times)) (and-left timely (ltb (2 * r + 16) frames && rest) h)),
-      ltb-true (2 * r + 16) frames (and-left (ltb (2 * r + 16) frames) rest (and-right timely (ltb (2 * r + 16) frames && rest) h)),
+      eqb-true (w .bands) (x .bands) (and-true-l (eqb (w .bands) (x .bands)) (regular (x .«hop_ms») (w .times)) (and-true-l timely (ltb (2 * r + 16) frames && rest) h)),
+      ltb-true (2 * r + 16) frames (and-true-l (ltb (2 * r + 16) frames) rest (and-true-r timely (ltb (2 * r + 16) frames && rest) h)),
       leb-true (frames - 2 * r) (x .frames) (and-last timely (ltb (2 * r + 16) frames) (validValues (w .values)) fits h),
     )
 
@@ -245,7 +227,7 @@ module _ (x : Reference) (fine query : Bands) (start : Float) (peaks : List ℕ)
   found-all k found done e = done .1 ∙ ap (λ (l : List Candidate). resultOf l) (rw e at (done .2))
 
 -- what owning picked places tells: their array has 8 elements
-pub eight : (r : Picked) (vs : List Val) → Is (rowOf the-type) r vs → length (r .at) ≡ 8
+pub eight : (r : Picked) (vs : List Val) → Is (rowOf the-type) r vs → length (r .at) ≡ candidatesMost
 eight r vs p = simp length-map at (p .1 .1 .0 .1 .0 .1)
 
 -- ---- the range of a local search
@@ -311,16 +293,6 @@ pub lent-is : (bands n : ℕ) (v e : List Float) → bandsOf n (take (bands * n)
 lent-is bands n v e = (λ i. bandsOf n (take (bands * n) v) (take (bands * add-one n i) e))
 
 -- ---- the candidate of a range
--- by scores that stand in a buffer, and by the query's energies, which are as they were
-pub best-is : (x : Reference) (fine : Bands) (n : ℕ) (query energy : List Float) (start : Float) (low high at k : ℕ) (after part : List Float) (c : Candidate)
-    → c ≡ candidateOf x fine (bandsOf n query part) start low (take k (drop at after)) → part ≡ energy → k ≡ high - low + 1
-    → take (high - low + 1) (drop at after) ≡ correlations (x .bands) fine n query (wholeEnergies (x .bands) (bandsOf n [] energy)) low (high - low + 1)
-    → c ≡ candidateIn x fine (bandsOf n query energy) start low high
-unfolding candidateIn wholeEnergies
-best-is x fine n query energy start low high at k after part c p e f s =
-    let scores = ap (λ (j : ℕ). take j (drop at after)) f ∙ s in
-    p ∙ (λ i. candidateOf x fine (bandsOf n query (e i)) start low (scores i))
-
 -- by fronts of buffers
 pub lent-candidate : (x : Reference) (n : ℕ) (fine energy values energies : List Float) (start : Float) (low high : ℕ) (c : Candidate)
     → c
@@ -419,10 +391,10 @@ fewer done (c ∷ l) =
     few-of (crowded done c) (independentFrom done l) (independentFrom (done ++ (c ∷ [])) l) (length done + length (c ∷ l)) (omega (arith, fewer done l))
     (omega (arith, fewer (done ++ (c ∷ [])) l, length-append done (c ∷ [])))
 
-pub independent-few : (found : MatchResult) {r : MatchResult} → r ≡ resultOf (independent (listed found)) → found .count ≤ 8 → r .count ≤ 8
+pub independent-few : (found : MatchResult) {r : MatchResult} → r ≡ resultOf (independent (listed found)) → found .count ≤ candidatesMost → r .count ≤ candidatesMost
 independent-few found e h = rw e (omega (arith, fewer [] (listed found), length-take (found .count) (found .candidates)))
 
-pub local-few : (x : Reference) (fine : Bands) (w : Features) (lower upper : Float) → length (localSearch x fine w lower upper) ≤ 8
+pub local-few : (x : Reference) (fine : Bands) (w : Features) (lower upper : Float) → length (localSearch x fine w lower upper) ≤ candidatesMost
 unfolding localSearch localFound
 local-few x fine w lower upper =
     let r = radius (x .«hop_ms») in

@@ -6,12 +6,9 @@ use native.Mathlib.Nat.{mul-le-mul}
 use native.Mathlib.Omega.{arith}
 use borrow.Author.Tests.{ltb-true, leb-true}
 use Rattle.matcher_spec.specs.Centring.{wideHop}
-use Rattle.matcher.proofs.SearchLaws.{and-left, and-right}
+use Rattle.matcher_spec.proofs.Cases.{both}
 use Rattle.matcher_replay.specs.Cases.{caseBands, caseFrames, caseWindow, coarseRoom, coarseEnergyRoom, fineRoom, fineEnergyRoom, isSmall, seedsEnd, windowRoom}
 use Rattle.matcher_replay.specs.declared.case.Case.{Case}
-
-both : (a b : Bool) → a && b ≡ true → (a ≡ true) × (b ≡ true)
-both a b h = (and-left a b h, and-right a b h)
 
 pub record Limits (c : Case) : Type 0 where
   pub seed : c .seed < seedsEnd

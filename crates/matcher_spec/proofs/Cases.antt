@@ -38,6 +38,9 @@ pub and-true-r : (a b : Bool) → a && b ≡ true → b ≡ true
 and-true-r true b e = e
 and-true-r false b e = never e refl
 
+pub both : (a b : Bool) → a && b ≡ true → (a ≡ true) × (b ≡ true)
+both a b e = (and-true-l a b e, and-true-r a b e)
+
 pub and-false : (b : Bool) → b && false ≡ false
 and-false true = refl
 and-false false = refl

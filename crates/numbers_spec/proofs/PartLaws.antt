@@ -1,12 +1,12 @@
--- Lists by a rule that are filled part by part, or gone over once more. Assumes nothing.
+-- Lists by a rule that are filled part by part, or gone over once more; fronts and parts of lists. Assumes nothing.
 use mathlib.Core.Path.{_≡_, refl, sym, ap, _∙_}
 use Prim.Native.Nat.{ℕ, zero, suc, _+_, _-_, _<_, _≤_}
 use native.Mathlib.Nat.{add-zero, add-suc}
 use native.Mathlib.Omega.{arith}
 use mathlib.Core.List.{List, [], _∷_, _++_, append-assoc, append-nil}
 use lib.ListN.{length, getD, take, drop, length-drop}
-use lib.Seq.{drop-at, take-all}
-use borrow.Rule.Slice.PartMut.{putMid}
+use lib.Seq.{drop-at, length-take-le, take-all, take-append-seam, take-take}
+use borrow.Rule.Slice.PartMut.{putMid, postOf}
 use Rattle.numbers_spec.specs.Rows.{tabulate}
 use Rattle.numbers_spec.proofs.RowLaws.{length-tabulate, getD-tabulate, tabulate-ext, put-next, filled-length, Filling, filling-all}
 
@@ -56,3 +56,15 @@ module _ {A : Type 0} (f : ℕ → A) where
 -- all of a list of n is filled
 pub filling-of : {A : Type 0} {f : ℕ → A} {d : List A} {n i : ℕ} {row : List A} → Filling f d i row → length d ≡ n → n ≤ i → row ≡ tabulate f n
 filling-of {f = f} p e h = filling-all p (omega arith) ∙ ap (tabulate f) e
+
+-- ---- fronts and parts of lists
+-- lists that agree at a front agree at a shorter one
+pub shorter-front : {A : Type 0} (m k : ℕ) (x y : List A) → m ≤ k → take k x ≡ take k y → take m x ≡ take m y
+shorter-front m k x y h e = sym (take-take m k x h) ∙ ap (take m) e ∙ take-take m k y h
+
+-- the part that was lent from `at` on and came back can be read there
+pub put-read : {A : Type 0} (at k : ℕ) (d part : List A) → at ≤ length d → take (length part) (drop at (putMid at k d part)) ≡ part
+put-read at k d part h = ap (take (length part)) (drop-at (take at d) (part ++ postOf at k d) at (length-take-le at d h)) ∙ take-append-seam part (postOf at k d)
+
+pub put-is : {A : Type 0} (at k n : ℕ) (d part : List A) → at ≤ length d → length part ≡ n → take n (drop at (putMid at k d part)) ≡ part
+put-is at k n d part h e = ap (λ (j : ℕ). take j (drop at (putMid at k d part))) (sym e) ∙ put-read at k d part h

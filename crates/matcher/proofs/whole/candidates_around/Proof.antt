@@ -12,7 +12,8 @@ use Rattle.matcher_spec.specs.Search.{candidatesAt}
 use Rattle.matcher_spec.specs.declared.types.MatchResult.{MatchResult}
 use Rattle.matcher_spec.specs.declared.types.Reference.{Reference}
 use Rattle.matcher_spec.proofs.CandidateLaws.{next, no-more}
-use Rattle.matcher.proofs.SearchLaws.{shorter-front, Found, found-none, found-more, found-all, eight}
+use Rattle.numbers_spec.proofs.PartLaws.{shorter-front}
+use Rattle.matcher.proofs.SearchLaws.{Found, found-none, found-more, found-all, eight}
 use Rattle.matcher.proofs.whole.candidates_around.Statement.{statement}
 use Rattle.matcher.proofs.whole.candidates_around.Tie as tie
 

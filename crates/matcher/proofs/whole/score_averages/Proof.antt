@@ -7,7 +7,8 @@ use mathlib.Core.List.{List, []}
 use lib.Ieee.{Float}
 use lib.ListN.{take, drop}
 use Rattle.matcher_spec.specs.Energy.{bandsOf, reduced}
-use Rattle.matcher.proofs.SearchLaws.{shorter-front, averaged-is}
+use Rattle.numbers_spec.proofs.PartLaws.{shorter-front}
+use Rattle.matcher.proofs.SearchLaws.{averaged-is}
 use Rattle.matcher.proofs.whole.score_averages.Statement.{statement}
 use Rattle.matcher.proofs.whole.score_averages.Tie as tie
 

@@ -1,9 +1,9 @@
--- `matcher::candidate::candidate_of` meets its contract. Assumes nothing.
+-- `matcher_candidates::candidate::candidate_of` meets its contract. Assumes nothing.
 use native.Mathlib.Omega.{arith}
 use Rattle.matcher_spec.specs.Search.{candidateOf}
 use borrow.Author.Needs.{needs}
-use Rattle.matcher.proofs.candidate.candidate_of.Statement.{statement}
-use Rattle.matcher.proofs.candidate.candidate_of.Tie as tie
+use Rattle.matcher_candidates.proofs.candidate.candidate_of.Statement.{statement}
+use Rattle.matcher_candidates.proofs.candidate.candidate_of.Tie as tie
 
 score-part-requires-3 : tie.Need-score-part-requires-3
 score-part-requires-3 c κs =

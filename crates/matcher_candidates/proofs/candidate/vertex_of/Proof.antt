@@ -1,9 +1,9 @@
--- `matcher::candidate::vertex_of` meets its contract. Assumes nothing.
+-- `matcher_candidates::candidate::vertex_of` meets its contract. Assumes nothing.
 use borrow.Author.Needs.{needs}
 use lib.Ieee.{neg, ofBits}
 use Rattle.matcher_spec.specs.Search.{vertex}
-use Rattle.matcher.proofs.candidate.vertex_of.Statement.{statement}
-use Rattle.matcher.proofs.candidate.vertex_of.Tie as tie
+use Rattle.matcher_candidates.proofs.candidate.vertex_of.Statement.{statement}
+use Rattle.matcher_candidates.proofs.candidate.vertex_of.Tie as tie
 
 returns : tie.Need-returns
 unfolding vertex neg ofBits

@@ -1,7 +1,7 @@
--- `matcher::candidate::clamp` meets its contract. Assumes nothing.
+-- `matcher_candidates::candidate::clamp` meets its contract. Assumes nothing.
 use lib.Ieee.{neg, ofBits}
-use Rattle.matcher.proofs.candidate.clamp.Statement.{statement}
-use Rattle.matcher.proofs.candidate.clamp.Tie as tie
+use Rattle.matcher_candidates.proofs.candidate.clamp.Statement.{statement}
+use Rattle.matcher_candidates.proofs.candidate.clamp.Tie as tie
 
 returns : tie.Need-returns
 unfolding neg ofBits

@@ -1,4 +1,4 @@
--- `matcher::candidate::best_candidate` meets its contract: the query's energies, which stand before the scores, are as they were. Assumes nothing.
+-- `matcher_candidates::candidate::best_candidate` meets its contract: the query's energies, which stand before the scores, are as they were. Assumes nothing.
 use borrow.Author.Needs.{needs}
 use mathlib.Core.Path.{_≡_, ap, _∙_}
 use Prim.Native.Nat.{ℕ, _+_, _-_, _*_, _≤_}
@@ -7,9 +7,10 @@ use mathlib.Core.List.{List}
 use lib.Ieee.{Float}
 use lib.ListN.{take}
 use Rattle.matcher_spec.specs.Energy.{bandsOf}
-use Rattle.matcher.proofs.SearchLaws.{shorter-front, best-is}
-use Rattle.matcher.proofs.candidate.best_candidate.Statement.{statement}
-use Rattle.matcher.proofs.candidate.best_candidate.Tie as tie
+use Rattle.numbers_spec.proofs.PartLaws.{shorter-front}
+use Rattle.matcher_candidates.proofs.CandidateLaws.{best-is}
+use Rattle.matcher_candidates.proofs.candidate.best_candidate.Statement.{statement}
+use Rattle.matcher_candidates.proofs.candidate.best_candidate.Tie as tie
 
 returns : tie.Need-returns
 returns c =

@@ -1,4 +1,4 @@
--- `matcher::candidate::fraction_at` meets its contract. Assumes nothing.
+-- `matcher_candidates::candidate::fraction_at` meets its contract. Assumes nothing.
 use borrow.Author.Needs.{needs}
 use borrow.Author.Tests.{ltb-true}
 use Prim.Native.Nat.{_+_}
@@ -6,20 +6,20 @@ use lib.Dec.{ltb}
 use lib.ListN.{length}
 use lib.Ieee.{ofBits}
 use Rattle.matcher_spec.specs.Search.{fraction}
-use Rattle.matcher.proofs.SearchLaws.{and-left, and-right}
-use Rattle.matcher.proofs.candidate.fraction_at.Statement.{statement}
-use Rattle.matcher.proofs.candidate.fraction_at.Tie as tie
+use Rattle.matcher_spec.proofs.Cases.{and-true-l, and-true-r}
+use Rattle.matcher_candidates.proofs.candidate.fraction_at.Statement.{statement}
+use Rattle.matcher_candidates.proofs.candidate.fraction_at.Tie as tie
 
 sub-vertex-of : tie.Need-sub-vertex-of
 sub-vertex-of c =
     let a = c .before .before .args in
-    ltb-true _ _ (and-left (ltb 0 (a .peak)) (ltb (a .peak + 1) (length (a .scores .now))) (c .if1 .taken))
+    ltb-true _ _ (and-true-l (ltb 0 (a .peak)) (ltb (a .peak + 1) (length (a .scores .now))) (c .if1 .taken))
 
 shared-slice-read-vertex-of-3 : tie.Need-shared-slice-read-vertex-of-3
 shared-slice-read-vertex-of-3 c =
     let at = c .before .before .before in
     let a = at .before .before .args in
-    ltb-true _ _ (and-right (ltb 0 (a .peak)) (ltb (a .peak + 1) (length (a .scores .now))) (at .if1 .taken))
+    ltb-true _ _ (and-true-r (ltb 0 (a .peak)) (ltb (a .peak + 1) (length (a .scores .now))) (at .if1 .taken))
 
 returns : tie.Need-returns
 unfolding fraction

@@ -1,4 +1,4 @@
--- `matcher::candidate::score_places` meets its contract. Assumes nothing.
+-- `matcher_candidates::candidate::score_places` meets its contract. Assumes nothing.
 use borrow.Author.Needs.{needs}
 use borrow.Rule.Slice.PartMut.{take-put}
 use mathlib.Core.Path.{_≡_, ap, _∙_}
@@ -10,9 +10,9 @@ use lib.ListN.{length, take, drop, length-take, length-drop}
 use Rattle.matcher_spec.specs.Energy.{Bands, bandsOf, wholeEnergies}
 use Rattle.matcher_spec.specs.Scores.{correlations}
 use Rattle.matcher_bands.proofs.EnergyLaws.{whole-front}
-use Rattle.matcher.proofs.SearchLaws.{put-is}
-use Rattle.matcher.proofs.candidate.score_places.Statement.{statement}
-use Rattle.matcher.proofs.candidate.score_places.Tie as tie
+use Rattle.numbers_spec.proofs.PartLaws.{put-is}
+use Rattle.matcher_candidates.proofs.candidate.score_places.Statement.{statement}
+use Rattle.matcher_candidates.proofs.candidate.score_places.Tie as tie
 
 slice-aggregate-correlations : tie.Need-slice-aggregate-correlations
 slice-aggregate-correlations c = simp length-take (omega arith)

@@ -1,0 +1,2 @@
+// The candidate of a range of places. Below the matcher, whose whole and local searches share it.
+pub mod candidate;
