@@ -1,113 +1,43 @@
 -- The laws that the functions of src/ cite: sizes, fronts and parts of buffers, what an accepted window tells, candidates around peaks, and the range of a local search. Assumes nothing.
 use mathlib.Core.Path.{_≡_, refl, sym, ap, subst, _∙_}
-use Prim.Native.Nat.{ℕ, zero, suc, _+_, _-_, _*_, _/_, _^_, _<_, _≤_, min}
-use native.Mathlib.Nat.{mul-add, mul-le-mul-left, le-refl}
+use Prim.Native.Nat.{ℕ, suc, _+_, _-_, _*_, _/_, _^_, _<_, _≤_, min}
 use native.Mathlib.Numerals.{add-one}
 use native.Mathlib.Omega.{arith}
 use mathlib.Core.Bool.{Bool, true, false, cond, not, _&&_}
-use mathlib.Core.List.{List, [], _∷_, _++_, append-assoc}
+use mathlib.Core.List.{List, [], _∷_, _++_}
 use mir.Val.{Val}
 use denote.Laws.{Is}
 use denote.Struct.Declared.{row as rowOf}
-use borrow.Author.Tests.{not-false, ltb-true, leb-true, eqb-true, le-leb, lt-leb}
-use lib.Dec.{T, eqb, ltb, leb}
+use borrow.Author.Tests.{le-leb, lt-leb}
+use lib.Dec.{T, leb}
 use lib.Ieee.{Float, le, lt}
 use lib.Ieee.Scale.{finite}
 use lib.ListN.{length, length-map, take, drop, length-append, length-take, length-drop, take-append-drop}
-use lib.Seq.{take-at, drop-at, take-take, take-append-le, drop-append-le, drop-append-add, drop-drop, length-take-le, take-append-seam}
-use borrow.Rule.Slice.PartMut.{putMid, postOf}
-use Rattle.matcher_spec.specs.Centring.{centred, centredAt, logs, radius}
+use lib.Seq.{take-append-le, drop-append-le}
+use Rattle.matcher_spec.specs.Centring.{radius}
 use Rattle.numbers_spec.specs.Arithmetic.{atMost, countOf, real}
 use Rattle.numbers_spec.proofs.CountLaws.{count-monotone, count-at-most}
 use Rattle.numbers_spec.proofs.Mantissa.{whole-finite}
 use Rattle.numbers_spec.proofs.Order.{lt→le, le-self}
 use Rattle.matcher_spec.specs.Candidates.{crowded, independent, independentFrom, insert, sortInto, sorted, listed, resultOf}
-use Rattle.matcher_spec.specs.Energy.{Bands, allEnergies, averages, allAverages, bandsOf, reduced, wholeEnergies}
+use Rattle.matcher_spec.specs.Energy.{Bands, averages, allAverages, bandsOf, reduced, wholeEnergies}
 use Rattle.matcher_spec.specs.Peaks.{peaks}
 use Rattle.matcher_spec.specs.Scores.{correlations}
-use Rattle.matcher_spec.specs.Index.{Matcher, acceptsReference, lentBands}
-use Rattle.numbers_spec.specs.Rows.{row, rows}
-use Rattle.matcher_spec.specs.Search.{FilledQuery, QueryIn, candidateIn, candidateOf, candidatesAt, coarseScores, localFound, localHigh, localLow, localSearch, queryOf, queryStart, queryValues, searchable, separation, wholeFound, wholeSearch}
+use Rattle.matcher_spec.specs.Index.{Matcher, lentBands}
+use Rattle.numbers_spec.specs.Rows.{row}
+use Rattle.matcher_spec.specs.Search.{FilledQuery, QueryIn, candidateIn, candidatesAt, coarseScores, localFound, localHigh, localLow, localSearch, queryOf, queryStart, searchable, separation, wholeFound, wholeSearch}
 use Rattle.matcher_spec.specs.Features.{Features}
-use Rattle.matcher_spec.specs.Timeline.{accepts, regular, validValues}
 use Rattle.matcher_spec.specs.declared.types.Candidate.{Candidate}
 use Rattle.matcher_spec.specs.declared.types.MatchResult.{MatchResult}
 use Rattle.matcher_spec.specs.declared.types.Reference.{Reference}
-use Rattle.matcher_spec.proofs.Cases.{and-true-l, and-true-r}
 use Rattle.matcher_spec.proofs.CandidateLaws.{listed-result, result-listed}
 use Rattle.matcher_spec.specs.Limits.{candidatesMost, framesMost}
 use Rattle.matcher_picks.specs.Picks.{pickedOf}
 use Rattle.matcher_picks.specs.declared.peaks.Picked.{Picked}
 use Rattle.matcher_picks.proofs.ResultLaws.{listed-picked}
 use Rattle.matcher_picks.proofs.peaks.Picked.{the-type}
-use Rattle.numbers_spec.proofs.RowLaws.{row-within, length-tabulate}
-
--- one of several rows fits where all do
-pub one-row : {bands l : ℕ} (n : ℕ) → 0 < bands → bands * n ≤ l → n ≤ l
-one-row {bands} n h w = omega (arith, row-within 0 bands n h)
-
--- The query's bands with n of the window's frames, with what the last band needs besides, and their averages by fours take no more than the window's.
-pub query-room : {bands : ℕ} (frames n : ℕ) → 0 < bands → n ≤ frames
-    → (frames + 1 ≤ bands * (frames + 1))
-    × (bands * n ≤ bands * frames)
-    × (bands * (n + 1) ≤ bands * (frames + 1))
-    × (bands * (n / 4) ≤ bands * n)
-    × (bands * (n / 4 + 1) ≤ bands * (n + 1))
-    × (bands * n + (frames - n) ≤ bands * frames)
-query-room {bands} frames n h w =
-    let e : frames ≡ n + (frames - n) = omega arith in (
-      one-row {bands = bands} (frames + 1) h (le-refl _),
-      mul-le-mul-left bands w,
-      mul-le-mul-left bands (omega arith),
-      mul-le-mul-left bands (omega arith),
-      mul-le-mul-left bands (omega arith),
-      omega (arith, ap (λ (k : ℕ). bands * k) e ∙ mul-add bands n (frames - n), one-row {bands = bands} (frames - n) h (le-refl _)),
-    )
-
--- two rules for rows that agree below n
-pub rows-ext : {A : Type 0} (f g : ℕ → List A) (n : ℕ) → ((i : ℕ) → i < n → f i ≡ g i) → rows f n ≡ rows g n
-unfolding rows
-rows-ext f g zero h = refl
-rows-ext f g (suc n) h = (λ k. rows-ext f g n (λ i w. h i (omega arith)) k ++ h n (omega arith) k)
-
--- A list d of which the front was filled with p, and which kept its length: p is as long as the part that it stands for, and can be read there.
-module _ {A : Type 0} (p d : List A) {e : List A} (k : ℕ) (q : e ≡ p ++ drop k d) (s : length e ≡ length d) (h : k ≤ length d) where
-  pub front-length : length p ≡ k
-  front-length = omega (arith, ap length q, length-append p (drop k d), length-drop k d)
-
-  pub front-is : take k e ≡ p
-  front-is = ap (take k) q ∙ take-at p (drop k d) k front-length
-
-  pub front-filled : e ≡ p ++ drop (length p) d
-  front-filled = q ∙ ap (λ (j : ℕ). p ++ drop j d) (sym front-length)
-
--- A list d of which k elements from `from` on were replaced by p, and which kept its length.
-module _ {A : Type 0} (p d : List A) {e : List A} (from k : ℕ) (q : e ≡ take from d ++ p ++ drop (from + k) d) (s : length e ≡ length d) (h : from + k ≤ length d) where
-  front : length (take from d) ≡ from
-  front = length-take-le from d (omega arith)
-
-  parts : e ≡ take from d ++ (p ++ drop (from + k) d)
-  parts = q ∙ append-assoc (take from d) p (drop (from + k) d)
-
-  pub within-length : length p ≡ k
-  within-length = omega (arith, front, ap length parts, length-append (take from d) (p ++ drop (from + k) d), length-append p (drop (from + k) d), length-drop (from + k) d)
-
-  pub within-is : take k (drop from e) ≡ p
-  within-is = ap (λ (l : List A). take k (drop from l)) parts ∙ ap (take k) (drop-at (take from d) (p ++ drop (from + k) d) from front) ∙ take-at p (drop (from + k) d) k within-length
-
-  pub within-before : take from e ≡ take from d
-  within-before = ap (take from) parts ∙ take-at (take from d) (p ++ drop (from + k) d) from front
-
--- a list by its front and its rest
-pub front-and-rest : {A : Type 0} {p : List A} (e d : List A) (k : ℕ) → take k e ≡ p → drop k e ≡ drop k d → e ≡ p ++ drop k d
-front-and-rest e d k q s = sym (take-append-drop k e) ∙ (λ i. q i ++ s i)
-
--- what lies past a filled front does not see it
-pub drop-past : {A : Type 0} (x d : List A) (m k : ℕ) → length x ≡ m → m ≤ k → drop k (x ++ drop m d) ≡ drop k d
-drop-past x d m k l h =
-    let e : k ≡ length x + (k - m) = omega arith in
-    let s : m + (k - m) ≡ k = omega arith in
-    ap (λ (j : ℕ). drop j (x ++ drop m d)) e ∙ drop-append-add x (drop m d) (k - m) ∙ drop-drop (k - m) m d ∙ ap (λ (j : ℕ). drop j d) s
+use Rattle.numbers_spec.proofs.RowLaws.{row-within}
+use Rattle.numbers_spec.proofs.PartLaws.{rows-ext}
 
 -- the averages of the bands at the front of a list
 pub averages-of-front : (bands n : ℕ) (v : List Float) → bands * n ≤ length v → allAverages bands n v ≡ allAverages bands n (take (bands * n) v)
@@ -122,50 +52,6 @@ averages-of-front bands n v h = rows-ext _ _ bands (λ b w. ap averages (same b 
         ap (λ (l : List Float). row n l b) (sym (take-append-drop all v))
         ∙ ap (take n) (drop-append-le (b * n) (take all v) (drop all v) (rw length-take (omega arith)))
         ∙ take-append-le n (drop (b * n) (take all v)) (drop all v) (simp (length-drop, length-take) (omega arith))
-
-pub centred-length : (r : ℕ) (v : List Float) → length (centred r v) ≡ length v
-unfolding centred
-centred-length r v = length-tabulate (centredAt r (logs v)) (length v)
-
--- a centred row is no longer than its row
-pub centred-within : (r n b : ℕ) (v : List Float) → length (centred r (row n v b)) ≤ n
-centred-within r n b v = rw (centred-length r (row n v b), length-take) (omega arith)
-
--- what a window keeps of its centred rows is the part of them that is filled
-pub kept-rows : (r bands n : ℕ) (v : List Float) → bands * n ≤ length v
-    → rows (λ (b : ℕ). take (n - 2 * r) (drop r (centred r (row n v b)))) bands ≡ queryValues r bands n v
-kept-rows r bands n v h = rows-ext _ _ bands (λ b w. ap (λ (k : ℕ). take (k - 2 * r) (drop r (centred r (row n v b)))) (sym (long b w)))
-  where
-    long : (b : ℕ) → b < bands → length (centred r (row n v b)) ≡ n
-    long b w = centred-length r (row n v b) ∙ simp (length-take, length-drop) (omega (arith, row-within b bands n w))
-
--- ---- what is known where all of several tests hold
-pub and-last : (a b c d : Bool) → a && (b && (c && d)) ≡ true → d ≡ true
-and-last a b c d h = and-true-r c d (and-true-r b (c && d) (and-true-r a (b && (c && d)) h))
-
--- an accepted reference has bands and frames
-pub accepted-room : (hop : Float) (bands : ℕ) (times values : List Float) → acceptsReference hop bands times values ≡ true → (0 < bands) × (1 < length times)
-unfolding acceptsReference regular
-accepted-room hop bands times values h =
-    let rest = ltb 0 bands && validValues values in (
-      ltb-true 0 bands (and-true-l (ltb 0 bands) (validValues values) (and-true-r (regular hop times) rest h)),
-      ltb-true 1 (length times) (and-true-l (ltb 1 (length times)) _ (and-true-l (regular hop times) rest h)),
-    )
-
--- a window that is searchable has the reference's bands, more frames than centring takes away, and no more left than the reference has
-pub searchable-room : (x : Reference) (w : Features) → searchable x w ≡ true
-    → (w .bands ≡ x .bands) × (2 * radius (x .«hop_ms») + 16 < length (w .times)) × (length (w .times) - 2 * radius (x .«hop_ms») ≤ x .frames)
-unfolding searchable accepts
-searchable-room x w h =
-    let r = radius (x .«hop_ms») in
-    let frames = length (w .times) in
-    let timely = eqb (w .bands) (x .bands) && regular (x .«hop_ms») (w .times) in
-    let fits = leb (frames - 2 * r) (x .frames) in
-    let rest = validValues (w .values) && fits in (
-      eqb-true (w .bands) (x .bands) (and-true-l (eqb (w .bands) (x .bands)) (regular (x .«hop_ms») (w .times)) (and-true-l timely (ltb (2 * r + 16) frames && rest) h)),
-      ltb-true (2 * r + 16) frames (and-true-l (ltb (2 * r + 16) frames) rest (and-true-r timely (ltb (2 * r + 16) frames && rest) h)),
-      leb-true (frames - 2 * r) (x .frames) (and-last timely (ltb (2 * r + 16) frames) (validValues (w .values)) fits h),
-    )
 
 -- ---- candidates around peaks
 with-one : (t : Bool) (c : Candidate) (cs done : List Candidate) → sortInto done (cond t (c ∷ cs) cs) ≡ sortInto (sortInto done (cond t (c ∷ []) [])) cs
@@ -275,19 +161,6 @@ query-stays bands n v w e f p q =
     let s : take (bands * suc n) e ≡ take (bands * suc n) f = subst (λ (k : ℕ). take (bands * k) e ≡ take (bands * k) f) (add-one n) q in
     (λ i. bandsOf n (p i) (s i))
 
--- fronts that were filled with the window's centred rows and their energies hold its query
-pub query-filled : (x : Reference) (w : Features) {r : ℕ} (work32 work64 : List Float) → r ≡ radius (x .«hop_ms») → w .bands ≡ x .bands
-    → take (w .bands * (length (w .times) - 2 * r)) work32 ≡ queryValues r (w .bands) (length (w .times)) (w .values)
-    → take (w .bands * (length (w .times) - 2 * r + 1)) work64 ≡ allEnergies (w .bands) (length (w .times) - 2 * r) (queryValues r (w .bands) (length (w .times)) (w .values))
-    → QueryIn x w work32 work64
-unfolding queryOf
-query-filled x w {r} work32 work64 e same p q =
-    let n = length (w .times) - 2 * r in
-    let s = sym (ap (λ (k : ℕ). take (w .bands * k) work64) (add-one n)) ∙ q in
-    let t : lentBands (w .bands) n work32 work64 ≡ queryOf r w = (λ i. bandsOf n (p i) (s i)) in
-    subst (λ (b : ℕ). lentBands b (length (w .times) - 2 * radius (x .«hop_ms»)) work32 work64 ≡ queryOf (radius (x .«hop_ms»)) w) same
-    (subst (λ (k : ℕ). lentBands (w .bands) (length (w .times) - 2 * k) work32 work64 ≡ queryOf k w) e t)
-
 -- fronts cut with n + 1 energies a band, where `lentBands` says suc n
 pub lent-is : (bands n : ℕ) (v e : List Float) → bandsOf n (take (bands * n) v) (take (bands * (n + 1)) e) ≡ lentBands bands n v e
 lent-is bands n v e = (λ i. bandsOf n (take (bands * n) v) (take (bands * add-one n i) e))
@@ -330,18 +203,6 @@ whole-made x fine coarse query start part held scores {separated} picked found r
     e
     ∙ ap (λ (l : List Candidate). resultOf (independent l))
     (listed-result (sorted (candidatesAt x part held start (take (picked .count) (picked .at)))) f ∙ (λ i. sorted (candidatesAt x (a i) (b i) start (at i))))
-
--- what filling answers and leaves where the window is searchable
-pub searchable-true : (x : Reference) (w : Features) (t : Bool) → t ≡ searchable x w → not t ≡ false → searchable x w ≡ true
-searchable-true x w t e h = sym e ∙ not-false t h
-
-pub query-told : (x : Reference) (w : Features) (work32 work64 : List Float) (t : Bool) {r : ℕ} → t ≡ searchable x w → not t ≡ false → r ≡ radius (x .«hop_ms»)
-    → take (w .bands * (length (w .times) - 2 * r)) work32 ≡ queryValues r (w .bands) (length (w .times)) (w .values)
-    → take (w .bands * (length (w .times) - 2 * r + 1)) work64 ≡ allEnergies (w .bands) (length (w .times) - 2 * r) (queryValues r (w .bands) (length (w .times)) (w .values))
-    → FilledQuery x w true work32 work64
-query-told x w work32 work64 t e h p q s =
-    let test = searchable-true x w t e h in
-    record { told = sym test; query = λ _. query-filled x w work32 work64 p (searchable-room x w test .0) q s }
 
 -- what is found by the filled query of a searchable window is what a search of the window finds
 pub whole-answer : (m : Matcher) (w : Features) {r : ℕ} {found : MatchResult} (work32 work64 : List Float) → searchable (m .reference) w ≡ true → r ≡ radius (m .reference .«hop_ms»)

@@ -41,6 +41,9 @@ and-true-r false b e = never e refl
 pub both : (a b : Bool) → a && b ≡ true → (a ≡ true) × (b ≡ true)
 both a b e = (and-true-l a b e, and-true-r a b e)
 
+pub and-last : (a b c d : Bool) → a && (b && (c && d)) ≡ true → d ≡ true
+and-last a b c d h = and-true-r c d (and-true-r b (c && d) (and-true-r a (b && (c && d)) h))
+
 pub and-false : (b : Bool) → b && false ≡ false
 and-false true = refl
 and-false false = refl

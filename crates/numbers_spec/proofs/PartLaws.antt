@@ -4,10 +4,10 @@ use Prim.Native.Nat.{ℕ, zero, suc, _+_, _-_, _<_, _≤_}
 use native.Mathlib.Nat.{add-zero, add-suc}
 use native.Mathlib.Omega.{arith}
 use mathlib.Core.List.{List, [], _∷_, _++_, append-assoc, append-nil}
-use lib.ListN.{length, getD, take, drop, length-drop}
-use lib.Seq.{drop-at, length-take-le, take-all, take-append-seam, take-take}
+use lib.ListN.{length, getD, take, drop, length-append, length-drop, take-append-drop}
+use lib.Seq.{drop-append-add, drop-at, drop-drop, length-take-le, take-all, take-append-seam, take-at, take-take}
 use borrow.Rule.Slice.PartMut.{putMid, postOf}
-use Rattle.numbers_spec.specs.Rows.{tabulate}
+use Rattle.numbers_spec.specs.Rows.{rows, tabulate}
 use Rattle.numbers_spec.proofs.RowLaws.{length-tabulate, getD-tabulate, tabulate-ext, put-next, filled-length, Filling, filling-all}
 
 -- a list from a place on
@@ -68,3 +68,48 @@ put-read at k d part h = ap (take (length part)) (drop-at (take at d) (part ++ p
 
 pub put-is : {A : Type 0} (at k n : ℕ) (d part : List A) → at ≤ length d → length part ≡ n → take n (drop at (putMid at k d part)) ≡ part
 put-is at k n d part h e = ap (λ (j : ℕ). take j (drop at (putMid at k d part))) (sym e) ∙ put-read at k d part h
+
+-- A list d of which the front was filled with p, and which kept its length: p is as long as the part that it stands for, and can be read there.
+module _ {A : Type 0} (p d : List A) {e : List A} (k : ℕ) (q : e ≡ p ++ drop k d) (s : length e ≡ length d) (h : k ≤ length d) where
+  pub front-length : length p ≡ k
+  front-length = omega (arith, ap length q, length-append p (drop k d), length-drop k d)
+
+  pub front-is : take k e ≡ p
+  front-is = ap (take k) q ∙ take-at p (drop k d) k front-length
+
+  pub front-filled : e ≡ p ++ drop (length p) d
+  front-filled = q ∙ ap (λ (j : ℕ). p ++ drop j d) (sym front-length)
+
+-- A list d of which k elements from `from` on were replaced by p, and which kept its length.
+module _ {A : Type 0} (p d : List A) {e : List A} (from k : ℕ) (q : e ≡ take from d ++ p ++ drop (from + k) d) (s : length e ≡ length d) (h : from + k ≤ length d) where
+  front : length (take from d) ≡ from
+  front = length-take-le from d (omega arith)
+
+  parts : e ≡ take from d ++ (p ++ drop (from + k) d)
+  parts = q ∙ append-assoc (take from d) p (drop (from + k) d)
+
+  pub within-length : length p ≡ k
+  within-length = omega (arith, front, ap length parts, length-append (take from d) (p ++ drop (from + k) d), length-append p (drop (from + k) d), length-drop (from + k) d)
+
+  pub within-is : take k (drop from e) ≡ p
+  within-is = ap (λ (l : List A). take k (drop from l)) parts ∙ ap (take k) (drop-at (take from d) (p ++ drop (from + k) d) from front) ∙ take-at p (drop (from + k) d) k within-length
+
+  pub within-before : take from e ≡ take from d
+  within-before = ap (take from) parts ∙ take-at (take from d) (p ++ drop (from + k) d) from front
+
+-- a list by its front and its rest
+pub front-and-rest : {A : Type 0} {p : List A} (e d : List A) (k : ℕ) → take k e ≡ p → drop k e ≡ drop k d → e ≡ p ++ drop k d
+front-and-rest e d k q s = sym (take-append-drop k e) ∙ (λ i. q i ++ s i)
+
+-- what lies past a filled front does not see it
+pub drop-past : {A : Type 0} (x d : List A) (m k : ℕ) → length x ≡ m → m ≤ k → drop k (x ++ drop m d) ≡ drop k d
+drop-past x d m k l h =
+    let e : k ≡ length x + (k - m) = omega arith in
+    let s : m + (k - m) ≡ k = omega arith in
+    ap (λ (j : ℕ). drop j (x ++ drop m d)) e ∙ drop-append-add x (drop m d) (k - m) ∙ drop-drop (k - m) m d ∙ ap (λ (j : ℕ). drop j d) s
+
+-- two rules for rows that agree below n
+pub rows-ext : {A : Type 0} (f g : ℕ → List A) (n : ℕ) → ((i : ℕ) → i < n → f i ≡ g i) → rows f n ≡ rows g n
+unfolding rows
+rows-ext f g zero h = refl
+rows-ext f g (suc n) h = (λ k. rows-ext f g n (λ i w. h i (omega arith)) k ++ h n (omega arith) k)

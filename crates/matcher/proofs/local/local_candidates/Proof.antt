@@ -10,7 +10,8 @@ use Rattle.matcher_spec.specs.Candidates.{resultOf}
 use Rattle.matcher_spec.specs.Index.{lentBands}
 use Rattle.matcher_spec.specs.declared.types.Candidate.{Candidate}
 use Rattle.matcher_spec.proofs.CandidateLaws.{result-listed}
-use Rattle.matcher.proofs.SearchLaws.{and-last, counts-within, local-pushed, local-none}
+use Rattle.matcher_spec.proofs.Cases.{and-last}
+use Rattle.matcher.proofs.SearchLaws.{counts-within, local-pushed, local-none}
 use Rattle.matcher.proofs.local.local_candidates.Statement.{statement}
 use Rattle.matcher.proofs.local.local_candidates.Tie as tie
 

@@ -9,7 +9,8 @@ use Rattle.matcher_spec.specs.Index.{lentBands}
 use Rattle.matcher_spec.specs.Search.{localSearch}
 use Rattle.matcher_spec.specs.Features.{features}
 use Rattle.matcher_spec.proofs.RadiusLaw.{radius-small}
-use Rattle.matcher.proofs.SearchLaws.{query-room, searchable-room, local-answer, local-few, still-filled}
+use Rattle.matcher_filling.proofs.FillLaws.{query-room, searchable-room}
+use Rattle.matcher.proofs.SearchLaws.{local-answer, local-few, still-filled}
 use Rattle.matcher.proofs.local.local_found.Statement.{statement}
 use Rattle.matcher.proofs.local.local_found.Tie as tie
 

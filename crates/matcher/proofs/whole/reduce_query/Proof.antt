@@ -9,8 +9,8 @@ use lib.Ieee.{Float}
 use lib.ListN.{length, take, drop, length-take, length-drop}
 use Rattle.matcher_spec.specs.Energy.{allAverages, allEnergies}
 use Rattle.numbers_spec.proofs.RowLaws.{whole-row}
-use Rattle.numbers_spec.proofs.PartLaws.{put-read}
-use Rattle.matcher.proofs.SearchLaws.{within-is, within-before, averages-of-front}
+use Rattle.numbers_spec.proofs.PartLaws.{put-read, within-is, within-before}
+use Rattle.matcher.proofs.SearchLaws.{averages-of-front}
 use Rattle.matcher.proofs.whole.reduce_query.Statement.{statement}
 use Rattle.matcher.proofs.whole.reduce_query.Tie as tie
 

@@ -9,7 +9,8 @@ use Rattle.matcher_spec.specs.Index.{lent, lentMatcher}
 use Rattle.matcher_spec.specs.Search.{wholeSearch}
 use Rattle.matcher_spec.specs.Features.{features}
 use Rattle.matcher_spec.proofs.RadiusLaw.{radius-small}
-use Rattle.matcher.proofs.SearchLaws.{query-room, searchable-room, whole-answer}
+use Rattle.matcher_filling.proofs.FillLaws.{query-room, searchable-room}
+use Rattle.matcher.proofs.SearchLaws.{whole-answer}
 use Rattle.matcher.proofs.whole.whole_found.Statement.{statement}
 use Rattle.matcher.proofs.whole.whole_found.Tie as tie
 

@@ -1,4 +1,4 @@
--- `matcher::index::fill_coarse` meets its contract: the energies are those of the averages, which stand at the front of `coarse`. Assumes nothing.
+-- `matcher_filling::index::fill_coarse` meets its contract: the energies are those of the averages, which stand at the front of `coarse`. Assumes nothing.
 use borrow.Author.Needs.{needs}
 use mathlib.Core.Path.{ap, _∙_}
 use Prim.Native.Nat.{_+_, _*_, _/_}
@@ -7,9 +7,9 @@ use mathlib.Core.List.{List, _++_}
 use lib.Ieee.{Float}
 use lib.ListN.{take, drop, length-take}
 use Rattle.matcher_spec.specs.Energy.{allAverages, allEnergies}
-use Rattle.matcher.proofs.SearchLaws.{front-is}
-use Rattle.matcher.proofs.index.fill_coarse.Statement.{statement}
-use Rattle.matcher.proofs.index.fill_coarse.Tie as tie
+use Rattle.numbers_spec.proofs.PartLaws.{front-is}
+use Rattle.matcher_filling.proofs.index.fill_coarse.Statement.{statement}
+use Rattle.matcher_filling.proofs.index.fill_coarse.Tie as tie
 
 slice-aggregate-fill-energies : tie.Need-slice-aggregate-fill-energies
 slice-aggregate-fill-energies c = simp length-take (omega arith)

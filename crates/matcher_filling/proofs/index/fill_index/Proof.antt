@@ -1,4 +1,4 @@
--- `matcher::index::fill_index` meets its contract. Assumes nothing.
+-- `matcher_filling::index::fill_index` meets its contract. Assumes nothing.
 use borrow.Author.Needs.{needs}
 use mathlib.Core.Path.{refl, sym, ap, _∙_}
 use Prim.Native.Nat.{ℕ, _+_, _*_, _/_}
@@ -11,9 +11,10 @@ use Rattle.matcher_spec.specs.Centring.{radius}
 use Rattle.matcher_spec.specs.Energy.{allAverages, allEnergies}
 use Rattle.matcher_spec.specs.Index.{fineValues, matcherOf}
 use Rattle.matcher_spec.proofs.RadiusLaw.{radius-small}
-use Rattle.matcher.proofs.SearchLaws.{front-is, front-filled, accepted-room}
-use Rattle.matcher.proofs.index.fill_index.Statement.{statement}
-use Rattle.matcher.proofs.index.fill_index.Tie as tie
+use Rattle.numbers_spec.proofs.PartLaws.{front-is, front-filled}
+use Rattle.matcher_filling.proofs.FillLaws.{accepted-room}
+use Rattle.matcher_filling.proofs.index.fill_index.Statement.{statement}
+use Rattle.matcher_filling.proofs.index.fill_index.Tie as tie
 
 returns : tie.Need-returns
 returns c = (sym (sym (c .before .accepts-reference .ensures) ∙ not-true _ (c .if1 .taken)), (refl, (refl, (refl, refl))))

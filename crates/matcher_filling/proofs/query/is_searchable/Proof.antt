@@ -1,10 +1,10 @@
--- `matcher::query::is_searchable` meets its contract: the margin fits, since the radius is at most 250. Assumes nothing.
+-- `matcher_filling::query::is_searchable` meets its contract: the margin fits, since the radius is at most 250. Assumes nothing.
 use borrow.Author.Needs.{needs}
 use native.Mathlib.Omega.{arith}
 use Rattle.matcher_spec.specs.Search.{searchable}
 use Rattle.matcher_spec.proofs.RadiusLaw.{radius-small}
-use Rattle.matcher.proofs.query.is_searchable.Statement.{statement}
-use Rattle.matcher.proofs.query.is_searchable.Tie as tie
+use Rattle.matcher_filling.proofs.query.is_searchable.Statement.{statement}
+use Rattle.matcher_filling.proofs.query.is_searchable.Tie as tie
 
 mul-margin : tie.Need-mul-margin
 mul-margin c = omega (arith, c .radius .ensures, radius-small _ (c .before .before .before .pre))

@@ -1,4 +1,4 @@
--- `matcher::query::centre_query` meets its contract: the energies are those of the kept parts, which stand at the front of `query`. Assumes nothing.
+-- `matcher_filling::query::centre_query` meets its contract: the energies are those of the kept parts, which stand at the front of `query`. Assumes nothing.
 use borrow.Author.Needs.{needs}
 use mathlib.Core.Path.{_≡_, ap, _∙_}
 use mathlib.Core.List.{List, _++_}
@@ -10,9 +10,10 @@ use Rattle.matcher_spec.specs.Centring.{centred}
 use Rattle.matcher_spec.specs.Energy.{allEnergies}
 use Rattle.matcher_spec.specs.Search.{queryValues}
 use Rattle.numbers_spec.specs.Rows.{row, rows}
-use Rattle.matcher.proofs.SearchLaws.{query-room, front-is, kept-rows}
-use Rattle.matcher.proofs.query.centre_query.Statement.{statement}
-use Rattle.matcher.proofs.query.centre_query.Tie as tie
+use Rattle.numbers_spec.proofs.PartLaws.{front-is}
+use Rattle.matcher_filling.proofs.FillLaws.{query-room, kept-rows}
+use Rattle.matcher_filling.proofs.query.centre_query.Statement.{statement}
+use Rattle.matcher_filling.proofs.query.centre_query.Tie as tie
 
 add-room : tie.Need-add-room
 add-room c =

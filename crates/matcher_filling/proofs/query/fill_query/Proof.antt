@@ -1,4 +1,4 @@
--- `matcher::query::fill_query` meets its contract. Assumes nothing.
+-- `matcher_filling::query::fill_query` meets its contract. Assumes nothing.
 use borrow.Author.Needs.{needs}
 use borrow.Author.Tests.{not-true}
 use mathlib.Core.Bool.{false≢true}
@@ -6,9 +6,9 @@ use mathlib.Core.Path.{sym, _∙_}
 use native.Mathlib.Omega.{arith}
 use Rattle.matcher_spec.specs.Features.{features}
 use Rattle.matcher_spec.proofs.RadiusLaw.{radius-small}
-use Rattle.matcher.proofs.SearchLaws.{searchable-room, searchable-true, query-told}
-use Rattle.matcher.proofs.query.fill_query.Statement.{statement}
-use Rattle.matcher.proofs.query.fill_query.Tie as tie
+use Rattle.matcher_filling.proofs.FillLaws.{searchable-room, searchable-true, query-told}
+use Rattle.matcher_filling.proofs.query.fill_query.Statement.{statement}
+use Rattle.matcher_filling.proofs.query.fill_query.Tie as tie
 
 returns : tie.Need-returns
 returns c = record { told = sym (not-true _ (c .if1 .taken)) ∙ c .before .is-searchable .ensures; query = λ h. absurd (false≢true h) }

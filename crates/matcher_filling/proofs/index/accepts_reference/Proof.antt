@@ -1,8 +1,8 @@
--- `matcher::index::accepts_reference` meets its contract. Assumes nothing.
+-- `matcher_filling::index::accepts_reference` meets its contract. Assumes nothing.
 use borrow.Author.Needs.{needs}
 use Rattle.matcher_spec.specs.Index.{acceptsReference}
-use Rattle.matcher.proofs.index.accepts_reference.Statement.{statement}
-use Rattle.matcher.proofs.index.accepts_reference.Tie as tie
+use Rattle.matcher_filling.proofs.index.accepts_reference.Statement.{statement}
+use Rattle.matcher_filling.proofs.index.accepts_reference.Tie as tie
 
 returns : tie.Need-returns
 unfolding acceptsReference

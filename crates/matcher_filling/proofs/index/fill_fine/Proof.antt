@@ -1,4 +1,4 @@
--- `matcher::index::fill_fine` meets its contract: the energies are those of the centred bands, which stand at the front of `fine`; of the sums nothing is left. Assumes nothing.
+-- `matcher_filling::index::fill_fine` meets its contract: the energies are those of the centred bands, which stand at the front of `fine`; of the sums nothing is left. Assumes nothing.
 use borrow.Author.Needs.{needs}
 use mathlib.Core.Path.{_≡_, _∙_}
 use Prim.Native.Nat.{ℕ, _+_, _-_, _*_, _≤_}
@@ -11,9 +11,10 @@ use Rattle.matcher_spec.specs.Centring.{centred}
 use Rattle.matcher_spec.specs.Energy.{allEnergies}
 use Rattle.matcher_spec.specs.Index.{fineValues}
 use Rattle.numbers_spec.specs.Rows.{row, rows}
-use Rattle.matcher.proofs.SearchLaws.{one-row, front-and-rest, drop-past, centred-within}
-use Rattle.matcher.proofs.index.fill_fine.Statement.{statement}
-use Rattle.matcher.proofs.index.fill_fine.Tie as tie
+use Rattle.numbers_spec.proofs.PartLaws.{front-and-rest, drop-past}
+use Rattle.matcher_filling.proofs.FillLaws.{one-row, centred-within}
+use Rattle.matcher_filling.proofs.index.fill_fine.Statement.{statement}
+use Rattle.matcher_filling.proofs.index.fill_fine.Tie as tie
 
 add-room : tie.Need-add-room
 add-room c =
