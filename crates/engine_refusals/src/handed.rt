@@ -6,7 +6,7 @@ ghost use Rattle.engine_spec.specs.Refusals.{handedRefusal, indexFits, openingR
 ghost use Rattle.matcher_spec.specs.Index.{lent};
 ghost use Rattle.engine_spec.specs.Lent.{handed, window};
 ghost use Rattle.matcher_spec.specs.Features.{features};
-ghost use Rattle.matcher_spec.specs.Limits.{framesMost, windowMost, bandsMost};
+ghost use Rattle.matcher_spec.specs.Limits.{windowMost, bandsMost};
 use crate::ranges::are_near;
 use crate::ranges::are_near_or_not_finite;
 use crate::ranges::are_valid_energies;
@@ -88,7 +88,7 @@ fn is_valid_window(bands: usize, times: &[f64], energies: &[f64], values: &[f32]
     (0 < bands) & ((energies.len() == n) & ((values.len() == bands * n) & are_valid(values)))
 }
 
-// 13: by the window's bands and frames and the state's frames.
+// 13: by the window's bands and frames and the state's frames, a `u16`.
 fn work_fits(
     bands: usize,
     frames: usize,
@@ -96,7 +96,7 @@ fn work_fits(
     room32: usize,
     room64: usize,
 ) -> bool
-    requires { ⌜ bands ≤ bandsMost ⌝ ∗ ⌜ frames ≤ windowMost ⌝ ∗ ⌜ «reference_frames» ≤ framesMost ⌝ }
+    requires { ⌜ bands ≤ bandsMost ⌝ ∗ ⌜ frames ≤ windowMost ⌝ ∗ ⌜ «reference_frames» < 2 ^ 16 ⌝ }
     ensures { λ r. ⌜ r ≡ workFits bands frames «reference_frames» room32 room64 ⌝ }
 {
     (2 * bands * frames <= room32) & (3 * bands * (frames + 1) + reference_frames <= room64)
