@@ -1,5 +1,5 @@
 -- What the calls ask of the matcher and answer, from what their tests and the matcher's functions say. Assumes nothing.
-use mathlib.Core.Path.{_≡_, sym}
+use mathlib.Core.Path.{_≡_, subst, sym}
 use Prim.Native.Nat.{ℕ, _*_, _/_, _≤_}
 use mathlib.Core.Bool.{Bool, true, false, not, cond}
 use mathlib.Core.List.{List, _++_}
@@ -14,8 +14,8 @@ use Rattle.matcher_spec.specs.Search.{InRange, WorkRoom}
 use Rattle.matcher_spec.specs.declared.types.Candidate.{Candidate}
 use Rattle.matcher_spec.specs.declared.types.MatchResult.{MatchResult}
 use Rattle.matcher_spec.specs.declared.types.Reference.{Reference}
-use Rattle.compare_exports.specs.MatcherCalls.{counted, fillAnswer, filledBuffers, fitsFill, fitsLocal, numbersOf, written}
-use Rattle.compare_exports.proofs.FitLaws.{fillable, passed, room}
+use Rattle.compare_exports.specs.MatcherCalls.{counted, fillAnswer, filledBuffers, fitsBands, fitsFill, fitsLocal, numbersOf, written}
+use Rattle.compare_exports.proofs.FitLaws.{fillable, held, passed, room}
 
 -- ---- filling the index, where all fits
 module _ (hop : Float) (bands : ℕ) (times values : List Float) (old : Index) {r : Bool} (e : r ≡ fitsFill hop bands times values old) (h : not r ≡ false) where
@@ -38,25 +38,33 @@ module _ (hop : Float) (bands : ℕ) (times values : List Float) (old : Index) {
   fill-answers g n a b c d = let f = passed e h in (rw (f, ← g) (sym n), (rw (f, ← g) a, (rw (f, ← g) b, (rw (f, ← g) c, rw (f, ← g) d))))
 
 -- ---- searches, where all fits
-module _ (x : Reference) (fine energy : List Float) (w : Features) (work32 work64 out : List Float) {r : Bool} (e : r ≡ fitsLocal x fine energy w (length work32) (length work64) (length out)) (h : not r ≡ false) where
-  pub record SearchRoom : Type 0 where
-    pub reference : InRange x
-    pub index : Holds (x .bands) (x .frames) fine energy
-    pub window : length (w .values) ≡ w .bands * length (w .times)
-    pub work : WorkRoom x (w .bands) (length (w .times)) work32 work64
-    pub numbers : 40 ≤ length out
+pub record SearchRoom (x : Reference) (fine energy : List Float) (w : Features) (work32 work64 out : List Float) : Type 0 where
+  pub reference : InRange x
+  pub index : Holds (x .bands) (x .frames) fine energy
+  pub window : length (w .values) ≡ w .bands * length (w .times)
+  pub work : WorkRoom x (w .bands) (length (w .times)) work32 work64
+  pub numbers : 40 ≤ length out
 
-  pub search-room : SearchRoom
-  search-room =
-      let r = room _ _ _ _ _ _ _ _ _ (passed e h) in
-      let l = r .reference in
-      record {
-        reference = record { hop = l .wide; some = l .some; few = l .most; short = l .short };
-        index = record { value-room = r .index .all; energy-room = r .index .sums };
-        window = r .window .whole;
-        work = record { work32-room = r .window .first; work64-room = r .window .second };
-        numbers = r .numbers;
-      }
+-- y is the reference that was made of x.
+pub search-room : (x : Reference) (fine energy : List Float) (w : Features) (work32 work64 out : List Float) {y : Reference} {r : Bool} → y ≡ x
+    → r ≡ fitsLocal x fine energy w (length work32) (length work64) (length out) → not r ≡ false → SearchRoom y fine energy w work32 work64 out
+search-room x fine energy w work32 work64 out s e h =
+    let r = room _ _ _ _ _ _ _ _ _ (passed e h) in
+    let l = r .reference in
+    subst (λ (z : Reference). SearchRoom z fine energy w work32 work64 out) (sym s)
+    (record {
+      reference = record { hop = l .wide; some = l .some; few = l .most; short = l .short };
+      index = record { value-room = r .index .all; energy-room = r .index .sums };
+      window = r .window .whole;
+      work = record { work32-room = r .window .first; work64-room = r .window .second };
+      numbers = r .numbers;
+    })
+
+pub coarse-room : (x : Reference) (coarse energy : List Float) {y : Reference} {r : Bool} → y ≡ x → r ≡ fitsBands (x .bands) (x .frames / 4) (length coarse) (length energy) → not r ≡ false
+    → Holds (y .bands) (y .frames / 4) coarse energy
+coarse-room x coarse energy s e h =
+    let r = held _ _ _ _ (passed e h) in
+    subst (λ (z : Reference). Holds (z .bands) (z .frames / 4) coarse energy) (sym s) (record { value-room = r .all; energy-room = r .sums })
 
 -- A search that fits is answered by what it finds.
 pub search-answers : (found : List Candidate) (old : List Float) {fits : Bool} {m : MatchResult} {new : List Float} → fits ≡ true → m ≡ resultOf found → new ≡ numbersOf (m .candidates) ++ drop 40 old

@@ -173,6 +173,50 @@ fn fits_local(
         & (fits_bands(reference.bands, reference.frames, fine, energy) & (NUMBERS <= out))
 }
 
+// The reference that a call's numbers make, and whether a search of it fits.
+struct Made {
+    reference: Reference,
+    fits: bool,
+}
+
+// Makes and tests the reference of both searches.
+fn made_reference(
+    reference_bands: usize,
+    frames: usize,
+    start: f64,
+    hop: f64,
+    fine: usize,
+    energy: usize,
+    bands: usize,
+    times: usize,
+    values: usize,
+    work32: usize,
+    work64: usize,
+    out: usize,
+) -> Made
+    ensures { λ r. ⌜ r .reference ≡ referenceOf «reference_bands» frames start hop ⌝ }
+    ensures { λ r. ⌜ r .fits ≡ fitsLocalLengths (referenceOf «reference_bands» frames start hop) fine energy bands times values work32 work64 out ⌝ }
+{
+    let reference = Reference {
+        bands: reference_bands,
+        frames,
+        start_ms: start,
+        hop_ms: hop,
+    };
+    let fits = fits_local(
+        reference,
+        fine,
+        energy,
+        bands,
+        times,
+        values,
+        work32,
+        work64,
+        out,
+    );
+    Made { reference, fits }
+}
+
 // The candidates of the whole reference: their number is the answer.
 #[no_mangle]
 pub extern "C" fn matcher_whole_search(
@@ -194,14 +238,11 @@ pub extern "C" fn matcher_whole_search(
     ensures { λ r. ⌜ r ≡ counted (fitsWhole (referenceOf «reference_bands» frames start hop) (lent (now (fine .entry)) (now (coarse .entry)) (now («fine_energy» .entry)) (now («coarse_energy» .entry))) (features bands (now (times .entry)) (now (values .entry))) (length (now (work32 .entry))) (length (now (work64 .entry))) (length (now (out .entry)))) (foundIn (referenceOf «reference_bands» frames start hop) (lent (now (fine .entry)) (now (coarse .entry)) (now («fine_energy» .entry)) (now («coarse_energy» .entry))) (features bands (now (times .entry)) (now (values .entry)))) ⌝ }
     ensures { λ _. ⌜ now (out .exit) ≡ written (fitsWhole (referenceOf «reference_bands» frames start hop) (lent (now (fine .entry)) (now (coarse .entry)) (now («fine_energy» .entry)) (now («coarse_energy» .entry))) (features bands (now (times .entry)) (now (values .entry))) (length (now (work32 .entry))) (length (now (work64 .entry))) (length (now (out .entry)))) (foundIn (referenceOf «reference_bands» frames start hop) (lent (now (fine .entry)) (now (coarse .entry)) (now («fine_energy» .entry)) (now («coarse_energy» .entry))) (features bands (now (times .entry)) (now (values .entry)))) (now (out .entry)) ⌝ }
 {
-    let reference = Reference {
-        bands: reference_bands,
+    let made = made_reference(
+        reference_bands,
         frames,
-        start_ms: start,
-        hop_ms: hop,
-    };
-    if !fits_local(
-        reference,
+        start,
+        hop,
         fine.len(),
         fine_energy.len(),
         bands,
@@ -210,9 +251,11 @@ pub extern "C" fn matcher_whole_search(
         work32.len(),
         work64.len(),
         out.len(),
-    ) {
+    );
+    if !made.fits {
         return UNFIT;
     }
+    let reference = made.reference;
     if !fits_bands(
         reference_bands,
         frames / 4,
@@ -258,14 +301,11 @@ pub extern "C" fn matcher_local_search(
     ensures { λ r. ⌜ r ≡ counted (fitsLocal (referenceOf «reference_bands» frames start hop) (now (fine .entry)) (now (energy .entry)) (features bands (now (times .entry)) (now (values .entry))) (length (now (work32 .entry))) (length (now (work64 .entry))) (length (now (out .entry)))) (foundNear (referenceOf «reference_bands» frames start hop) (now (fine .entry)) (now (energy .entry)) (features bands (now (times .entry)) (now (values .entry))) lower upper) ⌝ }
     ensures { λ _. ⌜ now (out .exit) ≡ written (fitsLocal (referenceOf «reference_bands» frames start hop) (now (fine .entry)) (now (energy .entry)) (features bands (now (times .entry)) (now (values .entry))) (length (now (work32 .entry))) (length (now (work64 .entry))) (length (now (out .entry)))) (foundNear (referenceOf «reference_bands» frames start hop) (now (fine .entry)) (now (energy .entry)) (features bands (now (times .entry)) (now (values .entry))) lower upper) (now (out .entry)) ⌝ }
 {
-    let reference = Reference {
-        bands: reference_bands,
+    let made = made_reference(
+        reference_bands,
         frames,
-        start_ms: start,
-        hop_ms: hop,
-    };
-    if !fits_local(
-        reference,
+        start,
+        hop,
         fine.len(),
         energy.len(),
         bands,
@@ -274,9 +314,11 @@ pub extern "C" fn matcher_local_search(
         work32.len(),
         work64.len(),
         out.len(),
-    ) {
+    );
+    if !made.fits {
         return UNFIT;
     }
+    let reference = made.reference;
     let found = local_search(
         fine,
         energy,
