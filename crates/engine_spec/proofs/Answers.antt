@@ -1,5 +1,6 @@
 -- What one computed answer does and shows: the facts of proofs/Effects.antt, of every answer. Assumes nothing.
-use mathlib.Core.Bool.{Bool, true, false, cond, not, _||_}
+use Prim.Native.Nat.{ℕ}
+use mathlib.Core.Bool.{Bool, true, false, cond, not, _&&_, _||_}
 use mathlib.Core.List.{List, [], _∷_}
 use mathlib.Core.Logic.{inl, inr}
 use mathlib.Core.Path.{_≡_, refl, sym, ap, _∙_, subst}
@@ -10,20 +11,22 @@ use lib.Ieee.Scale.{finite}
 use Rattle.numbers_spec.specs.Arithmetic.{_⊕_, _⊖_, zero⁺, absolute}
 use Rattle.numbers_spec.proofs.Sums.{sub-self}
 use Rattle.matcher_spec.specs.declared.types.Candidate.{Candidate}
+use Rattle.matcher_spec.specs.Features.{Features}
 use Rattle.matcher_spec.specs.Index.{Matcher}
 use Rattle.matcher_spec.specs.Search.{wholeSearch, localSearch}
 use Rattle.engine_spec.specs.Thresholds.{coastMostMs, localMs, samePlaceMs}
 use Rattle.engine_spec.specs.Windows.{Window, indexed, query, endpointOf, evidence, _after_}
 use Rattle.engine_spec.specs.Opening.{blankCandidate}
-use Rattle.engine_spec.specs.Readiness.{isNone}
 use Rattle.engine_spec.specs.Tracking.{Tracked, tracked, followed, supports, mayCoast}
-use Rattle.engine_spec.specs.Locking.{Reached, Searched, searched, wholeDue, wholeSearched, passed, passing, confirms, firstEvidence, keptOrReplaced}
-use Rattle.engine_spec.specs.Publishing.{Verdict, Decision, publish, ready, unready, verdictOf, ambiguous, candidatesShown, candidateArray}
-use Rattle.engine_spec.specs.SupportAge.{isLocked}
-use Rattle.engine_spec.specs.Chain.{interrupting, bestOffset}
+use Rattle.engine_spec.specs.Locking.{Searched, searched, isDue, wholeSearched, passed, passing, confirms, firstEvidence, keptOrReplaced}
+use Rattle.engine_spec.specs.Publishing.{Decision, publish, ready, unready, verdictOf, ambiguous, candidatesShown, candidateArray, comparableFrames, coverage}
+use Rattle.engine_spec.specs.Chain.{bestOffset}
 use Rattle.engine_spec.specs.Guarantee.{Shows}
-use Rattle.engine_spec.specs.Guaranteed.{unreachable}
+use Rattle.engine_spec.specs.Cases.{isNone, isLocked, interrupting, unreachable}
+use Rattle.engine_spec.specs.declared.types.Reached.{Reached}
+use Rattle.engine_spec.specs.declared.types.Verdict.{Verdict}
 use Rattle.engine_spec.specs.declared.types.RecordedMs.{RecordedMs}
+use Rattle.engine_spec.specs.declared.types.Configuration.{Configuration}
 use Rattle.engine_spec.specs.declared.types.Settings.{Settings}
 use Rattle.engine_spec.specs.declared.types.Lock.{Lock}
 use Rattle.engine_spec.specs.declared.types.Milestones.{Milestones}
@@ -48,13 +51,13 @@ followed-track lock offset first last c now (best ∷ rest) =
     (λ h. set refl (inr tt)) (λ h. kept)
 
 -- or none, where the track may not coast on.
-tracked-track : (lock : Bool) (m : Matcher) (hop : Float) (w : Window) (h : Hypothesis)
-    → let t = tracked m hop w h in Track (evidence hop w) lock h (t .accepted) (t .supported)
+tracked-track : (lock : Bool) (m : Matcher) (q : Features) (now : RecordedMs) (h : Hypothesis)
+    → let t = tracked m q now h in Track now lock h (t .accepted) (t .supported)
 unfolding tracked
-tracked-track lock m hop w hypothesis.Absent = gone
-tracked-track lock m hop w (hypothesis.Held offset first last c) =
-    cond-elim (λ (t : Tracked). Track (evidence hop w) lock (hypothesis.Held offset first last c) (t .accepted) (t .supported)) (mayCoast (evidence hop w) last) _ _
-    (λ h. followed-track lock offset first last c (evidence hop w) (localSearch (m .reference) (m .fine) (query w) (offset ⊖ localMs) (offset ⊕ localMs))) (λ h. gone)
+tracked-track lock m q now hypothesis.Absent = gone
+tracked-track lock m q now (hypothesis.Held offset first last c) =
+    cond-elim (λ (t : Tracked). Track now lock (hypothesis.Held offset first last c) (t .accepted) (t .supported)) (mayCoast now last) _ _
+    (λ h. followed-track lock offset first last c now (localSearch (m .reference) (m .fine) q (offset ⊖ localMs) (offset ⊕ localMs))) (λ h. gone)
 
 -- The end of a chain leaves one with this evidence: a track is kept only where the window supports it.
 replaced-track : (now : RecordedMs) {h a : Hypothesis} {supported : Bool} (best : Candidate) → Track now true h a supported → Track now true h (keptOrReplaced a supported best now) true
@@ -70,53 +73,53 @@ replaced-track now {h = h} best (kept {o = o}) =
 module _ (m : Matcher) (hop : Float) (w : Window) (k : Reached) (l : Lock) where
   -- a passing whole search: the end of a chain, or not
   passed-effects : (b : Candidate) (rest : List Candidate) → b ∷ rest ≡ wholeSearch m (query w) → T (passing (b ∷ rest))
-      → Effects m hop w k l (passed hop w k (firstEvidence (l .pending) (b .«offset_ms») (evidence hop w)) (tracked m hop w (l .accepted)) b rest)
+      → Effects m hop w k l (passed hop (evidence hop w) (endpointOf w) k (firstEvidence (l .pending) (b .«offset_ms») (evidence hop w)) (tracked m (query w) (evidence hop w) (l .accepted)) b rest)
   unfolding passed
   passed-effects b rest q p =
       let now = evidence hop w in
-      let t = tracked m hop w (l .accepted) in
+      let t = tracked m (query w) (evidence hop w) (l .accepted) in
       let ends = confirms hop (firstEvidence (l .pending) (b .«offset_ms») now) now b in
       cond-elim (λ (x : Searched). Effects m hop w k l x) ends _ _
       (λ h. record {
         lock = true;
-        track = replaced-track now b (tracked-track true m hop w (l .accepted));
+        track = replaced-track now b (tracked-track true m (query w) (evidence hop w) (l .accepted));
         pend = pass q p refl (sym (T-is ends h)) refl;
       })
-      (λ h. record { lock = false; track = tracked-track false m hop w (l .accepted); pend = pass q p refl (sym (not-T-is ends h)) refl })
+      (λ h. record { lock = false; track = tracked-track false m (query w) (evidence hop w) (l .accepted); pend = pass q p refl (sym (not-T-is ends h)) refl })
 
   -- a whole search
-  whole-effects : (found : List Candidate) → found ≡ wholeSearch m (query w) → Effects m hop w k l (wholeSearched hop w k (l .pending) (tracked m hop w (l .accepted)) found)
+  whole-effects : (found : List Candidate) → found ≡ wholeSearch m (query w) → Effects m hop w k l (wholeSearched hop (evidence hop w) (endpointOf w) k (l .pending) (tracked m (query w) (evidence hop w) (l .accepted)) found)
   unfolding wholeSearched passing
-  whole-effects [] q = record { lock = false; track = tracked-track false m hop w (l .accepted); pend = weak q tt refl refl }
+  whole-effects [] q = record { lock = false; track = tracked-track false m (query w) (evidence hop w) (l .accepted); pend = weak q tt refl refl }
   whole-effects (b ∷ rest) q =
       cond-elim (λ (x : Searched). Effects m hop w k l x) (passing (b ∷ rest)) _ _
       (λ p. passed-effects b rest q p)
-      (λ p. record { lock = false; track = tracked-track false m hop w (l .accepted); pend = weak q p refl refl })
+      (λ p. record { lock = false; track = tracked-track false m (query w) (evidence hop w) (l .accepted); pend = weak q p refl refl })
 
 -- What the searches do, with a whole search or without.
-pub effects : (m : Matcher) (hop : Float) (w : Window) (k : Reached) (l : Lock) → Effects m hop w k l (searched m hop w k l)
+pub effects : (granted : Bool) (m : Matcher) (hop : Float) (w : Window) (k : Reached) (l : Lock) → Effects m hop w k l (searched granted m hop w k l)
 unfolding searched
-effects m hop w k l =
-    let t = tracked m hop w (l .accepted) in
-    cond-elim (λ (x : Searched). Effects m hop w k l x) (wholeDue (t .supported) (endpointOf w) (l .«last_global_search_ms»)) _ _
+effects granted m hop w k l =
+    let t = tracked m (query w) (evidence hop w) (l .accepted) in
+    cond-elim (λ (x : Searched). Effects m hop w k l x) (granted && isDue (t .supported) (endpointOf w) (l .«last_global_search_ms»)) _ _
     (λ h. whole-effects m hop w k l (wholeSearch m (query w)) refl)
-    (λ h. record { lock = false; track = tracked-track false m hop w (l .accepted); pend = same refl refl })
+    (λ h. record { lock = false; track = tracked-track false m (query w) (evidence hop w) (l .accepted); pend = same refl refl })
 
 -- ---- what is shown of a search
 -- The first of the array is the best of what was found.
-best-shown : (hop : Float) (w : Window) (found : List Candidate) → cond (ltb 0 (length found)) (maybe.Is (getD (candidateArray hop w found) 0 blankCandidate .«offset_ms»)) maybe.Absent ≡ bestOf found
+best-shown : (n : ℕ) (r : Float) (found : List Candidate) → cond (ltb 0 (length found)) (maybe.Is (getD (candidateArray n r found) 0 blankCandidate .«offset_ms»)) maybe.Absent ≡ bestOf found
 unfolding candidatesShown
-best-shown hop w [] = refl
-best-shown hop w (c ∷ l) = rw (leb·suc-suc 0 (length l), leb·zero (length l))
+best-shown n r [] = refl
+best-shown n r (c ∷ l) = rw (leb·suc-suc 0 (length l), leb·zero (length l))
 
-found-shown : (s : Settings) (w : Window) (d : Decision) (ms : Milestones) → Shown (publish s w d ms) (d .global) (d .found)
+found-shown : (c : Configuration) (hop : Float) (w : Window) (d : Decision) (ms : Milestones) → Shown (publish c hop w d ms) (d .global) (d .found)
 unfolding publish bestOffset
-found-shown s w d ms = record { whole = refl; correlation = refl; margin = refl; first-half = refl; second-half = refl; recent = refl; best = best-shown (s .«hop_ms») w (d .found) }
+found-shown c hop w d ms = record { whole = refl; correlation = refl; margin = refl; first-half = refl; second-half = refl; recent = refl; best = best-shown (comparableFrames hop w) (coverage w) (d .found) }
 
 -- A whole search is shown in all fields.
-pub shows-whole : (s : Settings) (w : Window) (d : Decision) (ms : Milestones) → T (d .global) → Shows (s .«hop_ms») w (d .found) (publish s w d ms)
+pub shows-whole : (c : Configuration) (hop : Float) (w : Window) (d : Decision) (ms : Milestones) → T (d .global) → Shows hop w (d .found) (publish c hop w d ms)
 unfolding publish
-shows-whole s w d ms g =
+shows-whole c hop w d ms g =
     let e : d .global ≡ true = T-is (d .global) g in
     record { count = refl; candidates = refl; correlation = refl; margin = rw e; first-half = refl; second-half = refl; recent = refl; dense-margin = rw e; coarse-ambiguous = rw e }
 
@@ -134,10 +137,10 @@ usual-quiet true false = refl
 usual-quiet false confirmed = refl
 
 -- What its snapshot shows.
-pub silenced : (s : Settings) (w : Window) (k : Reached) (l : Lock) (r : WithholdReason) (ms : Milestones) → T (not (isNone r)) → Silence (publish s w (unready s k l r) ms)
+pub silenced : (c : Configuration) (hop : Float) (s : Settings) (w : Window) (k : Reached) (l : Lock) (r : WithholdReason) (ms : Milestones) → T (not (isNone r)) → Silence (publish c hop w (unready s k l r) ms)
 unfolding publish
-silenced s w k l r ms h = record {
-  shown = found-shown s w (unready s k l r) ms;
+silenced c hop s w k l r ms h = record {
+  shown = found-shown c hop w (unready s k l r) ms;
   quiet = quiet-state (indexed s) (k .confirmed);
   withheld = h;
   usual = usual-quiet (indexed s) (k .confirmed);
@@ -193,13 +196,13 @@ module _ (x : Searched) (now : RecordedMs) where
   unfolding verdictOf
   loud hypothesis.Absent = loud-off (x .reached .confirmed)
   loud (hypothesis.Held offset first last c) =
-      cond-elim (λ (v : Verdict). T (not (interrupting (v .state)))) (mayCoast now last) _ _ (λ h. loud-on (x .reached .final)) (λ h. loud-off (x .reached .confirmed))
+      cond-elim (λ (v : Verdict). T (not (interrupting (v .state)))) (mayCoast now last) _ _ (λ h. loud-on (x .reached .«final_lock»)) (λ h. loud-off (x .reached .confirmed))
 
-  usual : (a : Hypothesis) → (T (isHeld a) → T (x .reached .final)) → unreachable (verdictOf a now x .state) ≡ false
+  usual : (a : Hypothesis) → (T (isHeld a) → T (x .reached .«final_lock»)) → unreachable (verdictOf a now x .state) ≡ false
   unfolding verdictOf
   usual hypothesis.Absent f = usual-off (x .reached .confirmed)
   usual (hypothesis.Held offset first last c) f =
-      cond-elim (λ (v : Verdict). unreachable (v .state) ≡ false) (mayCoast now last) _ _ (λ h. usual-on (x .reached .final) (f tt)) (λ h. usual-off (x .reached .confirmed))
+      cond-elim (λ (v : Verdict). unreachable (v .state) ≡ false) (mayCoast now last) _ _ (λ h. usual-on (x .reached .«final_lock») (f tt)) (λ h. usual-off (x .reached .confirmed))
 
   -- A reason is shown exactly where the window supports no track: a supported one has this evidence, hence may coast.
   reasoned : {lock : Bool} {before a : Hypothesis} {supported : Bool} → x .supported ≡ supported → T (finite (now .0)) → Track now lock before a supported → isNone (verdictOf a now x .reason) ≡ supported
@@ -211,25 +214,25 @@ module _ (x : Searched) (now : RecordedMs) where
       cond-elim (λ (v : Verdict). isNone (v .reason) ≡ false) (mayCoast now l) _ _ (λ y. withheld-on (x .supported) ∙ e) (λ y. withheld-off (ambiguous (x .found)))
 
   -- A Locked snapshot is on the track.
-  track : (s : Settings) (w : Window) (ms : Milestones) (a : Hypothesis)
-      → TrackShown (publish s w (record { lock = x .lock; reached = x .reached; global = x .global; found = x .found; verdict = verdictOf a now x }) ms) now a
+  track : (c : Configuration) (hop : Float) (w : Window) (ms : Milestones) (a : Hypothesis)
+      → TrackShown (publish c hop w (record { lock = x .lock; reached = x .reached; global = x .global; found = x .found; verdict = verdictOf a now x }) ms) now a
   unfolding verdictOf publish
-  track s w ms hypothesis.Absent = free (not-locked (x .reached .confirmed))
-  track s w ms (hypothesis.Held offset first last c) =
-      cond-elim (λ (v : Verdict). TrackShown (publish s w (record { lock = x .lock; reached = x .reached; global = x .global; found = x .found; verdict = v }) ms) now (hypothesis.Held offset first last c)) (mayCoast now last) _ _
+  track c hop w ms hypothesis.Absent = free (not-locked (x .reached .confirmed))
+  track c hop w ms (hypothesis.Held offset first last r) =
+      cond-elim (λ (v : Verdict). TrackShown (publish c hop w (record { lock = x .lock; reached = x .reached; global = x .global; found = x .found; verdict = v }) ms) now (hypothesis.Held offset first last r)) (mayCoast now last) _ _
       (λ h. fast (record { estimate = tt; coast = refl; within = h })) (λ h. free (not-locked (x .reached .confirmed)))
 
 -- What the snapshot of a searched window shows.
-pub viewed : (s : Settings) (w : Window) (se : Searched) (l : Lock) (ms : Milestones) → T (finite (evidence (s .«hop_ms») w .0)) → (lock : Bool)
-    → Track (evidence (s .«hop_ms») w) lock (l .accepted) (se .lock .accepted) (se .supported) → View (s .«hop_ms») w se (publish s w (ready (s .«hop_ms») w se) ms)
+pub viewed : (c : Configuration) (hop : Float) (w : Window) (se : Searched) (l : Lock) (ms : Milestones) → T (finite (evidence hop w .0)) → (lock : Bool)
+    → Track (evidence hop w) lock (l .accepted) (se .lock .accepted) (se .supported) → View hop w se (publish c hop w (ready (evidence hop w) se) ms)
 unfolding publish
-viewed s w se l ms f lock t =
-    let now = evidence (s .«hop_ms») w in
+viewed c hop w se l ms f lock t =
+    let now = evidence hop w in
     let a = se .lock .accepted in
     record {
-      shown = found-shown s w (ready (s .«hop_ms») w se) ms;
+      shown = found-shown c hop w (ready now se) ms;
       loud = loud se now a;
       reason = reasoned se now refl f t;
-      track = track se now s w ms a;
+      track = track se now c hop w ms a;
       usual = usual se now a;
     }

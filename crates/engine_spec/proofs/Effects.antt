@@ -15,13 +15,13 @@ use Rattle.matcher_spec.specs.Index.{Matcher}
 use Rattle.matcher_spec.specs.Search.{wholeSearch, localSearch}
 use Rattle.matcher_spec.specs.SoundSearch.{SoundResult}
 use Rattle.engine_spec.specs.Windows.{Window, indexed, query, endpointOf, evidence, _after_}
-use Rattle.engine_spec.specs.Readiness.{isNone}
 use Rattle.engine_spec.specs.Tracking.{mayCoast}
-use Rattle.engine_spec.specs.Locking.{Reached, Searched, passing, firstEvidence, startedOrCarried, heldOrDropped, confirms, afterPassing, afterChain}
+use Rattle.engine_spec.specs.Locking.{Searched, passing, firstEvidence, startedOrCarried, heldOrDropped, confirms}
 use Rattle.engine_spec.specs.Publishing.{ofBest}
-use Rattle.engine_spec.specs.Chain.{interrupting, bestOffset}
-use Rattle.engine_spec.specs.Guarantee.{estimated}
-use Rattle.engine_spec.specs.Guaranteed.{unreachable}
+use Rattle.engine_spec.specs.Chain.{bestOffset}
+use Rattle.engine_spec.specs.Cases.{isNone, interrupting, estimated, unreachable}
+use Rattle.engine_spec.specs.declared.types.Reached.{Reached}
+use Rattle.engine_spec.specs.Milestones.{afterPassing, afterChain}
 use Rattle.engine_spec.specs.declared.types.RecordedMs.{RecordedMs}
 use Rattle.engine_spec.specs.declared.types.Settings.{Settings}
 use Rattle.engine_spec.specs.declared.types.Lock.{Lock}
@@ -104,7 +104,7 @@ pub record View (hop : Float) (w : Window) (s : Searched) (n : Snapshot) : Type 
   pub loud : T (not (interrupting (n .state)))
   pub reason : isNone (n .«withhold_reason») ≡ s .supported
   pub track : TrackShown n (evidence hop w) (s .lock .accepted)
-  pub usual : (T (isHeld (s .lock .accepted)) → T (s .reached .final)) → unreachable (n .state) ≡ false
+  pub usual : (T (isHeld (s .lock .accepted)) → T (s .reached .«final_lock»)) → unreachable (n .state) ≡ false
 
 -- All of a snapshot of a window that could not be searched.
 pub record Silence (n : Snapshot) : Type 0 where

@@ -15,7 +15,7 @@ use Rattle.numbers_spec.proofs.Sums.{sub-at-most}
 use Rattle.numbers_spec.proofs.Products.{mul-at-most, div-at-most}
 use Rattle.numbers_spec.proofs.WholeLaws.{round-laws}
 use Rattle.matcher_spec.specs.Centring.{contextMs, contextFrames}
-use Rattle.engine_spec.specs.Windows.{Window, endpointOf, evidence}
+use Rattle.engine_spec.specs.Windows.{Window, endpointOf, evidence, evidenceAt}
 use Rattle.engine_spec.specs.Refusals.{within, near, hopInRange, trackNumber}
 use Rattle.engine_spec.proofs.Tests.{and-l, and-r, and-i, T-is}
 use Rattle.matcher_spec.specs.Limits.{hopMost, farthestMs, trackMost}
@@ -116,7 +116,7 @@ unfolding le lt eq add sum mul round units size span climb ofBits ofFields odd t
 evidence-room = tt
 
 evidence-at-most : (hop : Float) (w : Window) → hopInRange hop ≡ true → near (endpointOf w .0) ≡ true → AtMost trackMost (evidence hop w .0)
-unfolding evidence
+unfolding evidenceAt
 evidence-at-most hop w e n =
     at-most-wider (farthestMs ⊕ twoFifty ⊗ hopMost) trackMost (endpointOf w .0 ⊖ contextFrames hop ⊗ hop) evidence-room
     (sub-at-most binary64 (endpointOf w .0) (contextFrames hop ⊗ hop) farthestMs (twoFifty ⊗ hopMost) farthest-finite most-trim-finite (bounded farthestMs (endpointOf w .0) n) (trim-at-most hop (hop-between hop e)))

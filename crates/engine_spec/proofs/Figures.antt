@@ -6,7 +6,7 @@ use Rattle.numbers_spec.specs.Whole.{wholeNearest}
 use Rattle.numbers_spec.proofs.Figures as number
 use Rattle.matcher_spec.specs.Centring.{contextFrames, radius}
 use Rattle.matcher_spec.proofs.Figures as matcher
-use Rattle.engine_spec.specs.Windows.{indexed, endpointOf, evidence, jumpsFrom, rereadsFrom}
+use Rattle.engine_spec.specs.Windows.{indexed, endpointOf, evidenceAt, jumpsFrom, rereadsFrom}
 use Rattle.engine_spec.specs.Thresholds.{rereadMs}
 use Rattle.engine_spec.specs.Submitting.{submit, reread, computedFrom, answeredFrom}
 use Rattle.engine_spec.specs.Figures.{P1, P2, P4, P6, Figures, ms10000, ms10089, ms10090, p1, p2, p3, p4, p5, p6, p7, p8, p9, p10, p11, p12}
@@ -39,11 +39,11 @@ figure-2 = record {
 }
 
 figure-4 : P4
-unfolding evidence radius contextFrames wholeNearest div mul round units size ofBits toUnsigned lt le
+unfolding evidenceAt radius contextFrames wholeNearest div mul round units size ofBits toUnsigned lt le
 figure-4 = record { radius-500 = refl; evidence-500 = λ w. refl; radius-501 = refl; evidence-501 = λ w. refl }
 
 figure-6 : P6
-unfolding evidence contextFrames wholeNearest div mul sub add neg round units size ofBits lt le
+unfolding evidenceAt contextFrames wholeNearest div mul sub add neg round units size ofBits lt le
 figure-6 w h = rw h refl
 
 pub figures : Figures

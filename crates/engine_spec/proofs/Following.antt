@@ -12,10 +12,10 @@ use Rattle.numbers_spec.specs.Arithmetic.{_⊗_, zero⁺, atLeast}
 use Rattle.numbers_spec.proofs.Sums.{sub-self, sub-not-negative}
 use Rattle.matcher_spec.specs.Centring.{contextFrames}
 use Rattle.engine_spec.specs.Thresholds.{coastMostMs, rereadMs}
-use Rattle.engine_spec.specs.Windows.{endpointOf, evidence, _after_}
-use Rattle.engine_spec.specs.Readiness.{isNone}
-use Rattle.engine_spec.specs.Chain.{Answered, windowAt, shownAt, spectralAt, when, jumpAt, interrupting, interrupts, EndsChain, OnChain, Coasts}
-use Rattle.engine_spec.specs.Guarantee.{estimated}
+use Rattle.engine_spec.specs.Windows.{endpointOf, evidence, evidenceAt, _after_}
+use Rattle.engine_spec.specs.Chain.{windowAt, shownAt, spectralAt, when, jumpAt, interrupts, EndsChain, OnChain, Coasts}
+use Rattle.engine_spec.specs.Cases.{isNone, interrupting, estimated}
+use Rattle.engine_spec.specs.Lists.{Answered}
 use Rattle.engine_spec.specs.declared.types.RecordedMs.{RecordedMs}
 use Rattle.engine_spec.specs.declared.types.Hypothesis.{Hypothesis}
 use Rattle.engine_spec.specs.declared.types.Hypothesis.the-variants as hypothesis
@@ -107,7 +107,7 @@ module _ (hop : Float) (a : ℕ → Answered) where
   -- The time since an answer, as the coast shows it, is the difference: an earlier one,
   since-earlier : (n : ℕ) → T (finite (contextFrames hop ⊗ hop)) → Timely hop a (suc n) → Anew n → (from : ℕ) → from < n → ((k : ℕ) → from < k → k < suc n → T (not (interrupts hop a k)))
       → atLeast zero⁺ (when hop a n after when hop a from) ≡ when hop a n after when hop a from
-  unfolding evidence
+  unfolding evidenceAt
   since-earlier zero f tm w from l u = absurd (not-suc-le-zero l)
   since-earlier (suc n) f tm w from l u =
       let now = suc n in

@@ -2,10 +2,10 @@
 use Prim.Native.Nat.{ℕ, zero, suc, _-_, _*_, _≤_, _<_}
 use native.Mathlib.Nat.{le-refl, not-suc-le-zero}
 use native.Mathlib.Omega.{arith}
-use mathlib.Core.Bool.{Bool, true, false, _&&_}
+use mathlib.Core.Bool.{Bool, true, false, cond, _&&_}
 use mathlib.Core.List.{List}
 use mathlib.Core.Logic.{inl, inr}
-use mathlib.Core.Path.{_≡_, sym, subst}
+use mathlib.Core.Path.{_≡_, refl, sym, subst}
 use lib.Dec.{T, ltb, leb, eqb, ltb→lt, leb→le, eqb→eq}
 use lib.Count.{trailingZeros}
 use lib.ListN.{length, getD}
@@ -18,23 +18,35 @@ use Rattle.matcher_spec.specs.Timeline.{validValues}
 use Rattle.matcher_spec.specs.SoundSearch.{GoodWindow}
 use Rattle.numbers_spec.proofs.Within.{at-most-within}
 use Rattle.matcher_spec.proofs.Bounds.{widened-to}
-use Rattle.engine_spec.specs.Windows.{query, endpointOf}
-use Rattle.engine_spec.specs.Refusals.{numberOf, refuses, unless, near, indexFits, validWindow, validEnergy, Submission, handedRefusal}
+use Rattle.engine_spec.specs.Windows.{query, endpointOf, Submission}
+use Rattle.engine_spec.specs.Refusals.{numberOf, refuses, unless, _then_, near, indexFits, lentRefusal, validWindow, validEnergy, windowRefusal, workFits, workRefusal, handedRefusal}
 use Rattle.engine_spec.specs.declared.types.Settings.{Settings}
-use Rattle.engine_spec.specs.declared.types.Answer.{Answer}
-use Rattle.engine_spec.specs.declared.types.Answer.the-variants as answer
+use Rattle.engine_spec.specs.declared.types.Refusal.{Refusal}
+use Rattle.engine_spec.specs.declared.types.Refusal.the-variants as refusal
 use Rattle.engine_spec.proofs.Tests.{and-l, and-r, T-is, below-or}
 use Rattle.matcher_spec.specs.Limits.{windowMost, bandsMost, farthestMs, farthest}
 
 -- ---- refusals in order
 -- Where the whole is no refusal, the first test passed and the rest is none.
-pub record Passed (test : Bool) (rest : Answer) : Type 0 where
+pub record Passed (test : Bool) (rest : Refusal) : Type 0 where
   pub here : T test
   pub on : refuses rest ≡ false
 
-pub passed : (test : Bool) (refusal rest : Answer) → T (refuses refusal) → refuses (unless test refusal rest) ≡ false → Passed test rest
-passed true refusal rest h e = record { here = tt; on = e }
-passed false refusal rest h e = absurd (subst T e h)
+pub passed : (test : Bool) (r rest : Refusal) → T (refuses r) → refuses (unless test r rest) ≡ false → Passed test rest
+passed true r rest h e = record { here = tt; on = e }
+passed false r rest h e = absurd (subst T e h)
+
+-- Where neither of two refuses in order, the first does not and the second does not.
+pub record Both (r rest : Refusal) : Type 0 where
+  pub first : refuses r ≡ false
+  pub second : refuses rest ≡ false
+
+pub both : (r rest : Refusal) → refuses (r then rest) ≡ false → Both r rest
+both r rest = go (refuses r) refl
+  where
+    go : (b : Bool) → refuses r ≡ b → refuses (cond b r rest) ≡ false → Both r rest
+    go true q e = absurd (subst T e (subst T (sym q) tt))
+    go false q e = record { first = q; second = e }
 
 -- ---- every element
 all-at : (p : ℕ → Bool) (n i : ℕ) → T (allTo p n) → i < n → T (p i)
@@ -63,27 +75,35 @@ pub record Unrefused (s : Settings) (i : Submission) : Type 0 where
   pub clock : T (finite (i .clock .0))
   pub some : 0 < length (i .window .times)
   pub short : length (i .window .times) ≤ windowMost
+  pub few : i .window .bands ≤ bandsMost
   pub valid : T (validWindow (i .window))
   pub times : T (every near (i .window .times))
+  pub work : T (workFits (i .window .bands) (length (i .window .times)) (s .«reference_frames») (i .room32) (i .room64))
 
 module _ (s : Settings) (i : Submission) (e : refuses (handedRefusal s i) ≡ false) where
   pub unrefused : Unrefused s i
-  unfolding handedRefusal numberOf
+  unfolding handedRefusal windowRefusal numberOf
   unrefused =
       let w = i .window in
-      let p₁ = passed (indexFits (s .«reference_frames») (s .«reference_bands») (i .index)) answer.IndexTooShort _ tt e in
-      let p₂ = passed (finite (i .clock .0)) answer.ClockNotFinite _ tt (p₁ .on) in
-      let p₃ = passed (ltb 0 (length (w .times))) answer.NoFrames _ tt (p₂ .on) in
-      let p₄ = passed (leb (length (w .times)) windowMost && leb (w .bands) bandsMost) answer.WindowTooLarge _ tt (p₃ .on) in
-      let p₅ = passed (validWindow w) answer.WindowInvalid _ tt (p₄ .on) in
-      let p₆ = passed (every near (w .times) && every validEnergy (w .energies)) answer.WindowTimeOutOfRange _ tt (p₅ .on) in
+      let n = length (w .times) in
+      let lent = both (lentRefusal s (i .index) (i .clock)) (windowRefusal w then workRefusal s w (i .room32) (i .room64)) e in
+      let whole = both (windowRefusal w) (workRefusal s w (i .room32) (i .room64)) (lent .second) in
+      let p₁ = passed (indexFits (s .«reference_frames») (s .«reference_bands») (i .index)) refusal.IndexTooShort _ tt (lent .first) in
+      let p₂ = passed (finite (i .clock .0)) refusal.ClockNotFinite _ tt (p₁ .on) in
+      let p₃ = passed (ltb 0 n) refusal.NoFrames _ tt (whole .first) in
+      let p₄ = passed (leb n windowMost && leb (w .bands) bandsMost) refusal.WindowTooLarge _ tt (p₃ .on) in
+      let p₅ = passed (validWindow w) refusal.WindowInvalid _ tt (p₄ .on) in
+      let p₆ = passed (every near (w .times) && every validEnergy (w .energies)) refusal.WindowTimeOutOfRange _ tt (p₅ .on) in
+      let p₇ = passed (workFits (w .bands) n (s .«reference_frames») (i .room32) (i .room64)) refusal.WorkTooShort _ tt (whole .second) in
       record {
         index = p₁ .here;
         clock = p₂ .here;
-        some = ltb→lt 0 (length (w .times)) (p₃ .here);
-        short = leb→le (length (w .times)) windowMost (and-l (leb (length (w .times)) windowMost) (leb (w .bands) bandsMost) (p₄ .here));
+        some = ltb→lt 0 n (p₃ .here);
+        short = leb→le n windowMost (and-l (leb n windowMost) (leb (w .bands) bandsMost) (p₄ .here));
+        few = leb→le (w .bands) bandsMost (and-r (leb n windowMost) (leb (w .bands) bandsMost) (p₄ .here));
         valid = p₅ .here;
         times = and-l (every near (w .times)) (every validEnergy (w .energies)) (p₆ .here);
+        work = p₇ .here;
       }
 
   pub near-endpoint : near (endpointOf (i .window) .0) ≡ true

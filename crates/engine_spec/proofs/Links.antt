@@ -14,8 +14,10 @@ use Rattle.numbers_spec.proofs.Order.{le-transitive, le-self, not-lt→le}
 use Rattle.numbers_spec.proofs.Sums.{sub-mono}
 use Rattle.matcher_spec.specs.Centring.{contextFrames}
 use Rattle.engine_spec.specs.Thresholds.{chainMs, chainRecent}
-use Rattle.engine_spec.specs.Windows.{Window, start, endpointOf, evidence, jumpsFrom, _after_}
-use Rattle.engine_spec.specs.Chain.{Answered, windowAt, shownAt, spectralAt, wholeAt, Passes, when, jumpAt, interrupting, interrupts, Unbroken, Latest, neighbouring, keeping, Chain}
+use Rattle.engine_spec.specs.Windows.{Window, start, endpointOf, evidence, evidenceAt, jumpsFrom, _after_}
+use Rattle.engine_spec.specs.Chain.{windowAt, shownAt, spectralAt, wholeAt, Passes, when, jumpAt, interrupts, Unbroken, Latest, neighbouring, keeping, Chain}
+use Rattle.engine_spec.specs.Lists.{Answered}
+use Rattle.engine_spec.specs.Cases.{interrupting}
 use Rattle.engine_spec.specs.declared.types.RecordedMs.{RecordedMs}
 use Rattle.engine_spec.proofs.Tests.{not-or-l, below-or}
 
@@ -26,7 +28,7 @@ onward hop last w h = not-or-l (lt (endpointOf w .0) (last .0)) (lt (last .0 ⊕
 
 -- evidence times are in the order of endpoints
 evidence-mono : (hop : Float) (v w : Window) → T (finite (contextFrames hop ⊗ hop)) → T (finite (endpointOf v .0)) → T (finite (endpointOf w .0)) → T (le (endpointOf v .0) (endpointOf w .0)) → T (le (evidence hop v .0) (evidence hop w .0))
-unfolding evidence
+unfolding evidenceAt
 evidence-mono hop v w f x y h = sub-mono binary64 (endpointOf v .0) (endpointOf w .0) (contextFrames hop ⊗ hop) x y f h
 
 module _ (hop : Float) (a : ℕ → Answered) where

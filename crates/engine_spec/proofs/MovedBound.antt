@@ -17,7 +17,8 @@ use Rattle.numbers_spec.proofs.Products.{mul-at-most, div-not-positive}
 use Rattle.numbers_spec.proofs.ExpLaws.{exp-laws}
 use Rattle.matcher_spec.specs.declared.types.Candidate.{Candidate}
 use Rattle.engine_spec.specs.Thresholds.{samePlaceMs, gainMs}
-use Rattle.engine_spec.specs.Tracking.{samePlace, gain, movedOffset}
+use Rattle.engine_spec.specs.Tracking.{gain, movedOffset}
+use Rattle.engine_spec.specs.Windows.{samePlace}
 use Rattle.engine_spec.proofs.Tests.{cond-elim}
 use Rattle.engine_spec.proofs.EvidenceBound.{at-most-wider}
 

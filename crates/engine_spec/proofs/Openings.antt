@@ -19,16 +19,18 @@ use Rattle.matcher_spec.specs.Index.{Index, Matcher, acceptsReference, matcherO
 use Rattle.matcher_spec.specs.SoundSearch.{GoodReference, SoundResult}
 use Rattle.matcher_spec.proofs.SoundSearch.{whole-sound, local-sound}
 use Rattle.matcher_spec.proofs.FilledIndex.{filled-index}
-use Rattle.engine_spec.specs.Windows.{Window, indexed, matcherIn, query, endpointOf}
+use Rattle.engine_spec.specs.Windows.{Window, indexed, matcherIn, query, endpointOf, Submission}
 use Rattle.matcher_spec.specs.Features.{Features}
-use Rattle.engine_spec.specs.Refusals.{numberOf, refuses, near, nearOrNotFinite, validConfiguration, hopInRange, countsInRange, bothOrNeither, openingRefusal, validSettings, Submission, handedRefusal}
-use Rattle.engine_spec.specs.Opening.{freshEngine, withIndex, withoutIndex, acceptsFeatures, openedSettings, opening, fills, matcherOfReference, openedIndex}
-use Rattle.engine_spec.specs.Readiness.{readiness, isNone}
-use Rattle.engine_spec.specs.Locking.{Reached}
+use Rattle.engine_spec.specs.Refusals.{numberOf, refuses, near, nearOrNotFinite, validConfiguration, hopInRange, countsInRange, bothOrNeither, openingRefusal, validSettings, handedRefusal}
+use Rattle.engine_spec.specs.Opening.{freshEngine, noEngine, withIndex, withoutIndex, acceptsFeatures, openedSettings, opening, fills, matcherOfReference, openedIndex}
+use Rattle.engine_spec.specs.Readiness.{readiness}
 use Rattle.engine_spec.specs.Publishing.{decide}
-use Rattle.engine_spec.specs.Submitting.{reachedBy, lockFrom, decisionOn}
+use Rattle.engine_spec.specs.Submitting.{lockFrom, decisionOn}
 use Rattle.engine_spec.specs.Guarantee.{Begins, FilledWith, Handed}
 use Rattle.engine_spec.specs.Guaranteed.{OpenedFilled}
+use Rattle.engine_spec.specs.Cases.{isNone, isRefused}
+use Rattle.engine_spec.specs.declared.types.Reached.{Reached}
+use Rattle.engine_spec.specs.Milestones.{reachedBy}
 use Rattle.engine_spec.specs.declared.types.Configuration.{Configuration}
 use Rattle.engine_spec.specs.declared.types.Settings.{Settings}
 use Rattle.engine_spec.specs.declared.types.Lock.{Lock}
@@ -36,6 +38,9 @@ use Rattle.engine_spec.specs.declared.types.Engine.{Engine}
 use Rattle.engine_spec.specs.declared.types.WithholdReason.{WithholdReason}
 use Rattle.engine_spec.specs.declared.types.WithholdReason.the-variants as reason
 use Rattle.engine_spec.specs.declared.types.Answer.the-variants as answer
+use Rattle.engine_spec.specs.declared.types.Refusal.{Refusal}
+use Rattle.engine_spec.specs.declared.types.Refusal.the-variants as refusal
+use Rattle.engine_spec.specs.declared.types.OpenResult.{OpenResult}
 use Rattle.engine_spec.proofs.Tests.{cond-elim, and-l, and-r, and-i, or-split, or-r, T-is}
 use Rattle.engine_spec.proofs.Effects.{Fair, Sound, trim}
 use Rattle.engine_spec.proofs.Handed.{passed, every-at, near-within, unrefused, near-endpoint, good-window}
@@ -60,32 +65,32 @@ unsearched false r h = refl
 same-else : {A : Type 0} (b : Bool) (x y z : A) → b ≡ false → cond b x z ≡ cond b y z
 same-else b x y z e = rw e refl
 
-same-decision : (s : Settings) (m n : Matcher) (w : Window) (k : Reached) (l : Lock) → (T (indexed s) → m ≡ n) → decide s m w k l ≡ decide s n w k l
+same-decision : (granted : Bool) (c : Configuration) (s : Settings) (m n : Matcher) (w : Window) (k : Reached) (l : Lock) → (T (indexed s) → m ≡ n) → decide granted c s m w k l ≡ decide granted c s n w k l
 unfolding decide readiness
-same-decision s m n w k l h = go (indexed s) h (unsearched (indexed s) _)
+same-decision granted c s m n w k l h = go (indexed s) h (unsearched (indexed s) _)
   where
-    go : (b : Bool) → (T b → m ≡ n) → (T (not b) → isNone (readiness s (k .confirmed) w) ≡ false) → decide s m w k l ≡ decide s n w k l
-    go true h u = ap (λ (x : Matcher). decide s x w k l) (h tt)
-    go false h u = same-else (isNone (readiness s (k .confirmed) w)) _ _ _ (u tt)
+    go : (b : Bool) → (T b → m ≡ n) → (T (not b) → isNone (readiness c s (k .confirmed) w) ≡ false) → decide granted c s m w k l ≡ decide granted c s n w k l
+    go true h u = ap (λ (x : Matcher). decide granted c s x w k l) (h tt)
+    go false h u = same-else (isNone (readiness c s (k .confirmed) w)) _ _ _ (u tt)
 
 -- ---- the halves of a best candidate are no NaN
 best-halves : (b : Candidate) (l : List Candidate) → SoundResult (b ∷ l) → Number (b .«first_half_score») × Number (b .«second_half_score»)
 best-halves b l r = let best = r .modest 0 (omega arith) in (best .first-half .number, best .second-half .number)
 
 -- ---- the settings of an engine that was opened
-module _ (c : Configuration) (hop : Float) (reference : Features) where
-  hop-is : openedSettings c hop reference .«hop_ms» ≡ hop
-  hop-is = cond-elim (λ (s : Settings). s .«hop_ms» ≡ hop) (acceptsFeatures hop reference) (withIndex c hop reference) (withoutIndex c hop) (λ a. refl) (λ a. refl)
+module _ (hop : Float) (reference : Features) where
+  pub hop-is : openedSettings hop reference .«hop_ms» ≡ hop
+  hop-is = cond-elim (λ (s : Settings). s .«hop_ms» ≡ hop) (acceptsFeatures hop reference) (withIndex hop reference) (withoutIndex hop) (λ a. refl) (λ a. refl)
 
   -- With index, the reference was accepted,
-  accepted-reference : T (indexed (openedSettings c hop reference)) → T (acceptsFeatures hop reference)
-  accepted-reference = cond-elim (λ (s : Settings). T (indexed s) → T (acceptsFeatures hop reference)) (acceptsFeatures hop reference) (withIndex c hop reference) (withoutIndex c hop) (λ a h. a) (λ a h. absurd h)
+  accepted-reference : T (indexed (openedSettings hop reference)) → T (acceptsFeatures hop reference)
+  accepted-reference = cond-elim (λ (s : Settings). T (indexed s) → T (acceptsFeatures hop reference)) (acceptsFeatures hop reference) (withIndex hop reference) (withoutIndex hop) (λ a h. a) (λ a h. absurd h)
 
   -- and the settings are the reference's.
-  indexed-settings : T (indexed (openedSettings c hop reference)) → openedSettings c hop reference ≡ withIndex c hop reference
+  indexed-settings : T (indexed (openedSettings hop reference)) → openedSettings hop reference ≡ withIndex hop reference
   indexed-settings h = go (acceptsFeatures hop reference) (accepted-reference h)
     where
-      go : (b : Bool) → T b → cond b (withIndex c hop reference) (withoutIndex c hop) ≡ withIndex c hop reference
+      go : (b : Bool) → T b → cond b (withIndex hop reference) (withoutIndex hop) ≡ withIndex hop reference
       go true h = refl
       go false h = absurd h
 
@@ -120,28 +125,33 @@ record Tested (c : Configuration) (hop : Float) (reference : Features) : Type 0 
   full : T (eqb (length (reference .values)) (reference .bands * length (reference .times)))
   times : T (every nearOrNotFinite (reference .times))
 
-valid-settings : (s : Settings) → T (validConfiguration (s .configuration)) → T (hopInRange (s .«hop_ms»)) → T (countsInRange (s .«reference_frames») (s .«reference_bands»))
+valid-settings : (s : Settings) → T (hopInRange (s .«hop_ms»)) → T (countsInRange (s .«reference_frames») (s .«reference_bands»))
     → T (bothOrNeither (s .«reference_frames») (s .«reference_bands»)) → T (near (s .«reference_start_ms» .0)) → T (validSettings s)
 unfolding validSettings
-valid-settings s p q r b n =
-    and-i (validConfiguration (s .configuration)) _ p
-    (and-i (hopInRange (s .«hop_ms»)) _ q
+valid-settings s q r b n =
+    and-i (hopInRange (s .«hop_ms»)) _ q
     (and-i (countsInRange (s .«reference_frames») (s .«reference_bands»)) _ r
-    (and-i (bothOrNeither (s .«reference_frames») (s .«reference_bands»)) _ b n)))
+    (and-i (bothOrNeither (s .«reference_frames») (s .«reference_bands»)) _ b n))
+
+-- An opening is answered where it is not refused.
+answered : (b : Bool) (r : Refusal) (x y : Engine) → isRefused (cond {A = OpenResult} b (record { answer = answer.Refused r; engine = x }) (record { answer = answer.Opened; engine = y }) .answer) ≡ false → b ≡ false
+unfolding isRefused
+answered true r x y h = h
+answered false r x y h = refl
 
 module _ (c : Configuration) (hop : Float) (reference : Features) (x : Index) (o : opening c hop reference x .answer ≡ answer.Opened) where
   not-refused : refuses (openingRefusal c hop reference x) ≡ false
-  unfolding opening numberOf
-  not-refused = ap refuses o
+  unfolding opening isRefused
+  not-refused = answered (refuses (openingRefusal c hop reference x)) (openingRefusal c hop reference x) noEngine (freshEngine c (openedSettings hop reference)) (ap isRefused o)
 
   tested : Tested c hop reference
   unfolding openingRefusal numberOf
   tested =
-      let p₁ = passed (validConfiguration c) answer.InvalidConfiguration _ tt not-refused in
-      let p₂ = passed (hopInRange hop) answer.HopOutOfRange _ tt (p₁ .on) in
-      let p₃ = passed (countsInRange (length (reference .times)) (reference .bands)) answer.ReferenceTooLarge _ tt (p₂ .on) in
-      let p₄ = passed (eqb (length (reference .values)) (reference .bands * length (reference .times))) answer.ReferenceMiscounted _ tt (p₃ .on) in
-      let p₅ = passed (every nearOrNotFinite (reference .times)) answer.ReferenceTimeTooFar _ tt (p₄ .on) in
+      let p₁ = passed (validConfiguration c) refusal.InvalidConfiguration _ tt not-refused in
+      let p₂ = passed (hopInRange hop) refusal.HopOutOfRange _ tt (p₁ .on) in
+      let p₃ = passed (countsInRange (length (reference .times)) (reference .bands)) refusal.ReferenceTooLarge _ tt (p₂ .on) in
+      let p₄ = passed (eqb (length (reference .values)) (reference .bands * length (reference .times))) refusal.ReferenceMiscounted _ tt (p₃ .on) in
+      let p₅ = passed (every nearOrNotFinite (reference .times)) refusal.ReferenceTimeTooFar _ tt (p₄ .on) in
       record { configuration = p₁ .here; hop-in-range = p₂ .here; counts = p₃ .here; full = p₄ .here; times = p₅ .here }
 
   -- A finite start lies within ±10 ^ 12.
@@ -154,22 +164,22 @@ module _ (c : Configuration) (hop : Float) (reference : Features) (x : Index) (o
       t : Float
       t = getD (reference .times) 0 nan
 
-  valid-opened : T (validSettings (openedSettings c hop reference))
-  valid-opened = cond-elim (λ (s : Settings). T (validSettings s)) (acceptsFeatures hop reference) (withIndex c hop reference) (withoutIndex c hop)
+  valid-opened : T (validSettings (openedSettings hop reference))
+  valid-opened = cond-elim (λ (s : Settings). T (validSettings s)) (acceptsFeatures hop reference) (withIndex hop reference) (withoutIndex hop)
       (λ a. let f = accepted hop reference a in
-      valid-settings (withIndex c hop reference) (tested .configuration) (tested .hop-in-range) (tested .counts) (both (length (reference .times)) (reference .bands) (let k = f .frames in omega arith) (f .bands)) (start-near f))
-      (λ a. valid-settings (withoutIndex c hop) (tested .configuration) (tested .hop-in-range) tt tt (unfold le lt eq neg ofBits in tt))
+      valid-settings (withIndex hop reference) (tested .hop-in-range) (tested .counts) (both (length (reference .times)) (reference .bands) (let k = f .frames in omega arith) (f .bands)) (start-near f))
+      (λ a. valid-settings (withoutIndex hop) (tested .hop-in-range) tt tt (unfold le lt eq neg ofBits in tt))
     where
       both : (frames bands : ℕ) → 0 < frames → 0 < bands → T (bothOrNeither frames bands)
       both frames bands p q = or-r (eqb frames 0 && eqb bands 0) (ltb 0 frames && ltb 0 bands) (and-i (ltb 0 frames) (ltb 0 bands) (lt→ltb 0 frames p) (lt→ltb 0 bands q))
 
   -- ---- an index that is there
-  module _ (there : T (indexed (openedSettings c hop reference))) where
-    matcher-held : (y : Index) → FilledWith (matcherOfReference hop reference) y → matcherIn (openedSettings c hop reference) y ≡ matcherOfReference hop reference
+  module _ (there : T (indexed (openedSettings hop reference))) where
+    matcher-held : (y : Index) → FilledWith (matcherOfReference hop reference) y → matcherIn (openedSettings hop reference) y ≡ matcherOfReference hop reference
     unfolding matcherOf
     matcher-held y f =
         let m = matcherOfReference hop reference in
-        ap (λ (s : Settings). matcherIn s y) (indexed-settings c hop reference there)
+        ap (λ (s : Settings). matcherIn s y) (indexed-settings hop reference there)
         ∙ (λ k. lentMatcher (m .reference) (lent
         (refilled (m .fine .values) (y .fine) (f .fine) k)
         (refilled (m .coarse .values) (y .coarse) (f .coarse) k)
@@ -179,7 +189,7 @@ module _ (c : Configuration) (hop : Float) (reference : Features) (x : Index) (o
 
     filling : T (fills c hop reference x)
     unfolding fills
-    filling = and-i (not (refuses (openingRefusal c hop reference x))) (acceptsFeatures hop reference) (subst (λ (b : Bool). T (not b)) (sym not-refused) tt) (accepted-reference c hop reference there)
+    filling = and-i (not (refuses (openingRefusal c hop reference x))) (acceptsFeatures hop reference) (subst (λ (b : Bool). T (not b)) (sym not-refused) tt) (accepted-reference hop reference there)
 
     opened-index : FilledWith (matcherOfReference hop reference) (openedIndex c hop reference x)
     unfolding openedIndex
@@ -197,7 +207,7 @@ module _ (c : Configuration) (hop : Float) (reference : Features) (x : Index) (o
     good-reference h =
         let frames = leb (length (reference .times)) framesMost in
         let bands = leb (reference .bands) bandsMost in
-        let a = accepted-reference c hop reference there in
+        let a = accepted-reference hop reference there in
         record {
           hop-between = hop-between hop (T-is (hopInRange hop) (tested .hop-in-range));
           few = leb→le (reference .bands) bandsMost (and-r frames bands (tested .counts));
@@ -217,47 +227,50 @@ pub record Opening (c : Configuration) (hop : Float) (reference : Features) (x :
   pub opened : opening c hop reference x .answer ≡ answer.Opened
 
 module _ {c : Configuration} {hop : Float} {reference : Features} {x : Index} (o : Opening c hop reference x) where
-  pub engine-is : opening c hop reference x .engine ≡ freshEngine (openedSettings c hop reference)
+  pub engine-is : opening c hop reference x .engine ≡ freshEngine c (openedSettings hop reference)
   unfolding opening
   engine-is = rw (not-refused c hop reference x (o .opened)) refl
 
-  pub settings-valid : validSettings (openedSettings c hop reference) ≡ true
-  settings-valid = T-is (validSettings (openedSettings c hop reference)) (valid-opened c hop reference x (o .opened))
+  pub configuration-valid : validConfiguration c ≡ true
+  configuration-valid = T-is (validConfiguration c) (tested c hop reference x (o .opened) .configuration)
 
-  hop-of-settings : hopInRange (openedSettings c hop reference .«hop_ms») ≡ true
-  hop-of-settings = ap hopInRange (hop-is c hop reference) ∙ T-is (hopInRange hop) (tested c hop reference x (o .opened) .hop-in-range)
+  pub settings-valid : validSettings (openedSettings hop reference) ≡ true
+  settings-valid = T-is (validSettings (openedSettings hop reference)) (valid-opened c hop reference x (o .opened))
 
-  pub trim-finite : T (finite (trim (openedSettings c hop reference)))
-  trim-finite = trimmed-finite (openedSettings c hop reference .«hop_ms») hop-of-settings
+  hop-of-settings : hopInRange (openedSettings hop reference .«hop_ms») ≡ true
+  hop-of-settings = ap hopInRange (hop-is hop reference) ∙ T-is (hopInRange hop) (tested c hop reference x (o .opened) .hop-in-range)
+
+  pub trim-finite : T (finite (trim (openedSettings hop reference)))
+  trim-finite = trimmed-finite (openedSettings hop reference .«hop_ms») hop-of-settings
 
   -- ---- a submission that is not refused, with the index that opening filled
-  module _ (i : Submission) (h : Handed (openedSettings c hop reference) (matcherOfReference hop reference) i) (e : refuses (handedRefusal (openedSettings c hop reference) i) ≡ false) where
-    pub sound : Sound (openedSettings c hop reference) (matcherOfReference hop reference) (i .window)
+  module _ (i : Submission) (h : Handed (openedSettings hop reference) (matcherOfReference hop reference) i) (e : refuses (handedRefusal (openedSettings hop reference) i) ≡ false) where
+    pub sound : Sound (openedSettings hop reference) (matcherOfReference hop reference) (i .window)
     sound =
-        let good = good-window (openedSettings c hop reference) i e (h .held) in
+        let good = good-window (openedSettings hop reference) i e (h .held) in
         record {
           whole = λ there. whole-sound hop (reference .bands) (reference .times) (reference .values) (query (i .window)) (good-reference c hop reference x (o .opened) there (o .held)) good;
           near = λ there. local-sound hop (reference .bands) (reference .times) (reference .values) (query (i .window)) (good-reference c hop reference x (o .opened) there (o .held)) good;
         }
 
-    pub fair : Fair (openedSettings c hop reference) (matcherOfReference hop reference) (i .window)
+    pub fair : Fair (openedSettings hop reference) (matcherOfReference hop reference) (i .window)
     fair =
-        let near-end = subst T (sym (near-endpoint (openedSettings c hop reference) i e)) tt in
+        let near-end = subst T (sym (near-endpoint (openedSettings hop reference) i e)) tt in
         record {
           endpoint = near-within (endpointOf (i .window) .0) near-end .finite-is;
-          evidence = evidence-bound (openedSettings c hop reference .«hop_ms») (i .window) hop-of-settings (near-endpoint (openedSettings c hop reference) i e) .0;
+          evidence = evidence-bound (openedSettings hop reference .«hop_ms») (i .window) hop-of-settings (near-endpoint (openedSettings hop reference) i e) .0;
           halves = λ there b l f. best-halves b l (subst SoundResult (sym f) (sound .whole there));
         }
 
     -- The lent index holds the reference's matcher.
-    matcher-is : T (indexed (openedSettings c hop reference)) → matcherIn (openedSettings c hop reference) (i .index) ≡ matcherOfReference hop reference
-    matcher-is there = matcher-held c hop reference x (o .opened) there (i .index) (h .index there (unrefused (openedSettings c hop reference) i e .index))
+    matcher-is : T (indexed (openedSettings hop reference)) → matcherIn (openedSettings hop reference) (i .index) ≡ matcherOfReference hop reference
+    matcher-is there = matcher-held c hop reference x (o .opened) there (i .index) (h .index there (unrefused (openedSettings hop reference) i e .index))
 
-  pub decision-is : (e : Engine) (i : Submission) → e .settings ≡ openedSettings c hop reference → Handed (openedSettings c hop reference) (matcherOfReference hop reference) i
-      → refuses (handedRefusal (openedSettings c hop reference) i) ≡ false
-      → decisionOn e i ≡ decide (openedSettings c hop reference) (matcherOfReference hop reference) (i .window) (reachedBy (e .milestones)) (lockFrom e (i .window))
+  pub decision-is : (e : Engine) (i : Submission) → e .settings ≡ openedSettings hop reference → Handed (openedSettings hop reference) (matcherOfReference hop reference) i
+      → refuses (handedRefusal (openedSettings hop reference) i) ≡ false
+      → decisionOn e i ≡ decide true (e .configuration) (openedSettings hop reference) (matcherOfReference hop reference) (i .window) (reachedBy (e .milestones)) (lockFrom e (i .window))
   unfolding decisionOn
   decision-is e i same h r =
       let l = lockFrom e (i .window) in
-      ap (λ (s : Settings). decide s (matcherIn s (i .index)) (i .window) (reachedBy (e .milestones)) l) same
-      ∙ same-decision (openedSettings c hop reference) (matcherIn (openedSettings c hop reference) (i .index)) (matcherOfReference hop reference) (i .window) (reachedBy (e .milestones)) l (matcher-is i h r)
+      ap (λ (s : Settings). decide true (e .configuration) s (matcherIn s (i .index)) (i .window) (reachedBy (e .milestones)) l) same
+      ∙ same-decision true (e .configuration) (openedSettings hop reference) (matcherIn (openedSettings hop reference) (i .index)) (matcherOfReference hop reference) (i .window) (reachedBy (e .milestones)) l (matcher-is i h r)

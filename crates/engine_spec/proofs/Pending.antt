@@ -18,10 +18,12 @@ use Rattle.matcher_spec.specs.declared.types.Candidate.{Candidate}
 use Rattle.matcher_spec.specs.Index.{Matcher}
 use Rattle.matcher_spec.specs.Search.{wholeSearch}
 use Rattle.engine_spec.specs.Thresholds.{chainMs, chainRecent}
-use Rattle.engine_spec.specs.Windows.{Window, query, _after_}
-use Rattle.engine_spec.specs.Tracking.{samePlace}
-use Rattle.engine_spec.specs.Locking.{Reached, Searched, passing, current, firstEvidence, holds, heldOrDropped, confirms}
-use Rattle.engine_spec.specs.Chain.{Answered, windowAt, shownAt, wholeAt, Passes, when, jumpAt, interrupting, bestOffset, interrupts, Latest, neighbouring, keeping, EndsChain}
+use Rattle.engine_spec.specs.Windows.{Window, query, _after_, samePlace, current}
+use Rattle.engine_spec.specs.Locking.{Searched, passing, firstEvidence, holds, heldOrDropped, confirms}
+use Rattle.engine_spec.specs.Chain.{windowAt, shownAt, wholeAt, Passes, when, jumpAt, bestOffset, interrupts, Latest, neighbouring, keeping, EndsChain}
+use Rattle.engine_spec.specs.declared.types.Reached.{Reached}
+use Rattle.engine_spec.specs.Lists.{Answered}
+use Rattle.engine_spec.specs.Cases.{interrupting}
 use Rattle.engine_spec.specs.declared.types.RecordedMs.{RecordedMs}
 use Rattle.engine_spec.specs.declared.types.Maybe.the-variants as maybe
 use Rattle.engine_spec.specs.declared.types.Hypothesis.{Hypothesis}

@@ -9,19 +9,20 @@ use lib.Dec.{T}
 use lib.ListN.{length, getD}
 use lib.Ieee.{Float}
 use Rattle.matcher_spec.specs.Index.{Index, Matcher}
-use Rattle.engine_spec.specs.Windows.{Window, rereads}
+use Rattle.engine_spec.specs.Windows.{Window, rereads, Submission}
 use Rattle.matcher_spec.specs.Features.{Features}
-use Rattle.engine_spec.specs.Refusals.{Submission, refuses, handedRefusal, submissionRefusal}
+use Rattle.engine_spec.specs.Refusals.{validConfiguration, handedRefusal, submissionRefusal}
 use Rattle.engine_spec.specs.Opening.{freshEngine, openedSettings, matcherOfReference}
-use Rattle.engine_spec.specs.Submitting.{reread, computedFrom}
-use Rattle.engine_spec.specs.Chain.{Answered}
-use Rattle.engine_spec.specs.Guarantee.{answersTo, engineAfter, isComputed, remaining, AllHanded, unanswered, Trusted, Promised, Guarantee}
-use Rattle.engine_spec.specs.Guaranteed.{unreachable, NeverSeven, NeverConfirmed}
+use Rattle.engine_spec.specs.Submitting.{shownAgain, reread, computedFrom}
+use Rattle.engine_spec.specs.Guarantee.{AllHanded, Trusted, Promised, Guarantee}
+use Rattle.engine_spec.specs.Guaranteed.{NeverSeven, NeverConfirmed}
+use Rattle.engine_spec.specs.Lists.{Answered, answersTo, engineAfter, remaining, unanswered}
+use Rattle.engine_spec.specs.Cases.{isComputed, isRefused, unreachable}
 use Rattle.engine_spec.proofs.Standing.{Inv, start, Next, next}
 use Rattle.engine_spec.proofs.Handed.{near-endpoint, clock-finite}
-use Rattle.engine_spec.proofs.Openings.{Opening, engine-is, settings-valid, trim-finite, fair, sound, decision-is}
-use Rattle.engine_spec.proofs.Validity.{safe-fresh, safe-next}
-use Rattle.engine_spec.proofs.Submissions.{clash, computedBy, isAt, Grounds, New, refusal, again, computed, good-fresh, good-after, refusal-is, refusal-struck, answeredBy, Steps, stop, step, steps, told, Trace, end, more, trace}
+use Rattle.engine_spec.proofs.Openings.{Opening, engine-is, hop-is, configuration-valid, settings-valid, trim-finite, fair, sound, decision-is}
+use Rattle.engine_spec.proofs.Validity.{safe-next}
+use Rattle.engine_spec.proofs.Submissions.{clash, computedBy, isAt, Grounds, New, refusal, again, computed, good-fresh, good-after, refusal-is, answeredBy, Steps, stop, step, steps, told, Trace, end, more, trace}
 use Rattle.engine_spec.proofs.Struck.{alike, alike-self}
 use Rattle.engine_spec.specs.declared.types.Configuration.{Configuration}
 use Rattle.engine_spec.specs.declared.types.Settings.{Settings}
@@ -30,12 +31,12 @@ use Rattle.engine_spec.specs.declared.types.Endpoint.{Endpoint}
 use Rattle.engine_spec.specs.declared.types.Endpoint.the-variants as endpoint
 
 -- ---- an opening that is answered gives all that the list's proof rests on
-grounds : (c : Configuration) (hop : Float) (reference : Features) (x : Index) → Opening c hop reference x → Grounds (openedSettings c hop reference) (matcherOfReference hop reference)
+grounds : (c : Configuration) (hop : Float) (reference : Features) (x : Index) → Opening c hop reference x → Grounds (openedSettings hop reference) (matcherOfReference hop reference)
 grounds c hop reference x o =
-    let s = openedSettings c hop reference in
+    let s = openedSettings hop reference in
     record {
       trimmed = trim-finite o;
-      fresh = safe-fresh s (settings-valid o);
+      valid = settings-valid o;
       clocked = clock-finite s;
       fair = fair o;
       decision = decision-is o;
@@ -73,46 +74,48 @@ module _ (s : Settings) (m : Matcher) (g : Grounds s m) (a : ℕ → Answered) w
       go (suc j) l r rs = subst (λ (p : ℕ). Relied s m a p) (sym (plus-suc n j)) (rs j (omega arith))
 
 -- from the first on
-relied : (s : Settings) (m : Matcher) (g : Grounds s m) (A : List Answered) → Trace s m (freshEngine s) A → (k : ℕ) → k < length A → Relied s m (λ (j : ℕ). getD A j unanswered) k
-relied s m g A t k l =
+relied : (c : Configuration) (s : Settings) (m : Matcher) (g : Grounds s m) (A : List Answered) → Trace s m (freshEngine c s) A → (k : ℕ) → k < length A → Relied s m (λ (j : ℕ). getD A j unanswered) k
+relied c s m g A t k l =
     let a : ℕ → Answered = λ (j : ℕ). getD A j unanswered in
     subst (λ (p : ℕ). Relied s m a p) (zero-plus k)
-    (along s m g a 0 (freshEngine s) A t (λ j u. ap (λ (p : ℕ). getD A p unanswered) (zero-plus j)) (start s m a) k l)
+    (along s m g a 0 (freshEngine c s) A t (λ j u. ap (λ (p : ℕ). getD A p unanswered) (zero-plus j)) (start s m a c) k l)
   where
     zero-plus : (j : ℕ) → 0 + j ≡ j
     zero-plus j = omega arith
 
 -- ---- the guarantee
-promised : (s : Settings) (m : Matcher) → Grounds s m → (l : List Submission) → AllHanded s m l → Promised (freshEngine s) m l
+promised : (c : Configuration) (s : Settings) (m : Matcher) → Grounds s m → validConfiguration c ≡ true → (l : List Submission) → AllHanded s m l → Promised (s .«hop_ms») (freshEngine c s) m l
 unfolding freshEngine
-promised s m g l h =
-    let e = freshEngine s in
-    let good = good-fresh s m g in
+promised c s m g v l h =
+    let e = freshEngine c s in
+    let good = good-fresh c s m g v in
     let st = steps s m g e l good h in
     let tr = trace s m e l (answersTo e l) st in
     record {
       told = told s m e l (answersTo e l) st;
       struck = alike s m g e (remaining (answersTo e l)) tr e good (alike-self e);
-      trusted = λ i u. relied s m g (remaining (answersTo e l)) tr i u .trusted;
+      trusted = λ i u. relied c s m g (remaining (answersTo e l)) tr i u .trusted;
     }
 
 pub guarantee : Guarantee
 guarantee c hop reference x held opened l h =
     let o : Opening c hop reference x = record { held = held; opened = opened } in
-    subst (λ (e : Engine). Promised e (matcherOfReference hop reference) l) (sym (engine-is o))
-    (promised (openedSettings c hop reference) (matcherOfReference hop reference) (grounds c hop reference x o) l h)
+    let m = matcherOfReference hop reference in
+    subst (λ (e : Engine). Promised hop e m l) (sym (engine-is o))
+    (subst (λ (t : Float). Promised t (freshEngine c (openedSettings hop reference)) m l) (hop-is hop reference)
+    (promised c (openedSettings hop reference) m (grounds c hop reference x o) (configuration-valid o) l h))
 
 -- ---- no state reached is refused with 7
-seven : (s : Settings) (m : Matcher) → Grounds s m → (l : List Submission) → AllHanded s m l → (i : Submission)
-    → submissionRefusal (engineAfter (freshEngine s) l) i ≡ handedRefusal (freshEngine s .settings) i
+seven : (c : Configuration) (s : Settings) (m : Matcher) → Grounds s m → validConfiguration c ≡ true → (l : List Submission) → AllHanded s m l → (i : Submission)
+    → submissionRefusal (engineAfter (freshEngine c s) l) i ≡ handedRefusal (freshEngine c s .settings) i
 unfolding freshEngine
-seven s m g l h i = refusal-is s (engineAfter (freshEngine s) l) i (good-after s m g (freshEngine s) l (good-fresh s m g) h)
+seven c s m g v l h i = refusal-is s (engineAfter (freshEngine c s) l) i (good-after s m g (freshEngine c s) l (good-fresh c s m g v) h)
 
 pub never-seven : NeverSeven
 never-seven c hop reference x held opened l h =
     let o : Opening c hop reference x = record { held = held; opened = opened } in
     subst (λ (e : Engine). (i : Submission) → submissionRefusal (engineAfter e l) i ≡ handedRefusal (e .settings) i) (sym (engine-is o))
-    (seven (openedSettings c hop reference) (matcherOfReference hop reference) (grounds c hop reference x o) l h)
+    (seven c (openedSettings hop reference) (matcherOfReference hop reference) (grounds c hop reference x o) (configuration-valid o) l h)
 
 -- ---- no answer is Confirmed, Ready or Drifting
 -- Each of these shows another state;
@@ -121,13 +124,13 @@ Usual A = (k : ℕ) → k < length A → unreachable (getD A k unanswered .snaps
 
 -- or each that is not a refusal does.
 abbrev UsualUnrefused : List Answered → Type 0
-UsualUnrefused A = (k : ℕ) → k < length A → refuses (getD A k unanswered .answer) ≡ false → unreachable (getD A k unanswered .snapshot .state) ≡ false
+UsualUnrefused A = (k : ℕ) → k < length A → isRefused (getD A k unanswered .answer) ≡ false → unreachable (getD A k unanswered .snapshot .state) ≡ false
 
 -- So does the last snapshot, which a re-reading shows.
 abbrev LastUsual : Engine → Type 0
 LastUsual e = T (isAt (e .last .«endpoint_ms»)) → unreachable (e .last .snapshot .state) ≡ false
 
-usual-with : (x : Answered) (A : List Answered) → (refuses (x .answer) ≡ false → unreachable (x .snapshot .state) ≡ false) → UsualUnrefused A → UsualUnrefused (x ∷ A)
+usual-with : (x : Answered) (A : List Answered) → (isRefused (x .answer) ≡ false → unreachable (x .snapshot .state) ≡ false) → UsualUnrefused A → UsualUnrefused (x ∷ A)
 usual-with x A h t zero l = h
 usual-with x A h t (suc k) l = t k (omega arith)
 
@@ -137,26 +140,25 @@ there s endpoint.Absent w h = clash (sym h)
 there s (endpoint.At t) w h = tt
 
 usual-along : (s : Settings) (m : Matcher) (e : Engine) (l : List Submission) (A : List Answered) → Steps s m e l A → LastUsual e → Usual (remaining A) → UsualUnrefused A
-unfolding remaining isComputed reread computedFrom
+unfolding remaining isComputed isRefused reread shownAgain computedFrom
 usual-along s m e l A stop last h = λ k u r. absurd (lt-irrefl 0 (omega arith))
 usual-along s m e l A (step {i = i} {l = j} {A = B} good (refusal q) rest) last h =
-    usual-with _ B (λ r. clash (sym q ∙ r))
-    (usual-along s m e j B rest last (rw (refusal-struck (handedRefusal s i) q) at h))
+    usual-with _ B (λ r. clash r) (usual-along s m e j B rest last h)
 usual-along s m e l A (step {i = i} {l = j} {A = B} good (again q p) rest) last h =
     usual-with _ B (λ r. last (there s (e .last .«endpoint_ms») (i .window) p)) (usual-along s m e j B rest last h)
 usual-along s m e l A (step {i = i} {l = j} {A = B} good (computed n) rest) last h =
     usual-with _ B (λ r. h 0 (omega arith))
     (usual-along s m (computedBy s m e i .engine) j B rest (λ t. h 0 (omega arith)) (λ k u. h (suc k) (omega arith)))
 
-never-unusual : (s : Settings) (m : Matcher) → Grounds s m → (l : List Submission) → AllHanded s m l → UsualUnrefused (answersTo (freshEngine s) l)
+never-unusual : (c : Configuration) (s : Settings) (m : Matcher) → Grounds s m → validConfiguration c ≡ true → (l : List Submission) → AllHanded s m l → UsualUnrefused (answersTo (freshEngine c s) l)
 unfolding freshEngine
-never-unusual s m g l h =
-    let e = freshEngine s in
-    let st = steps s m g e l (good-fresh s m g) h in
-    usual-along s m e l (answersTo e l) st (λ t. absurd t) (λ k u. relied s m g (remaining (answersTo e l)) (trace s m e l (answersTo e l) st) k u .usual)
+never-unusual c s m g v l h =
+    let e = freshEngine c s in
+    let st = steps s m g e l (good-fresh c s m g v) h in
+    usual-along s m e l (answersTo e l) st (λ t. absurd t) (λ k u. relied c s m g (remaining (answersTo e l)) (trace s m e l (answersTo e l) st) k u .usual)
 
 pub never-confirmed : NeverConfirmed
 never-confirmed c hop reference x held opened l h =
     let o : Opening c hop reference x = record { held = held; opened = opened } in
     subst (λ (e : Engine). UsualUnrefused (answersTo e l)) (sym (engine-is o))
-    (never-unusual (openedSettings c hop reference) (matcherOfReference hop reference) (grounds c hop reference x o) l h)
+    (never-unusual c (openedSettings hop reference) (matcherOfReference hop reference) (grounds c hop reference x o) (configuration-valid o) l h)

@@ -15,17 +15,17 @@ use Rattle.engine_spec.specs.Guarantee.{Shows, Apart}
 use Rattle.engine_spec.specs.declared.types.CandidateDiagnostics.{CandidateDiagnostics}
 use Rattle.engine_spec.specs.declared.types.Snapshot.{Snapshot}
 
-offset-at : (hop : Float) (w : Window) (found : List Candidate) (rest : List CandidateDiagnostics) (j : ℕ) → j < length found
-    → getD (candidatesShown hop w found ++ rest) j blankCandidate .«offset_ms» ≡ getD found j blank .«offset_ms»
+offset-at : (n : ℕ) (r : Float) (found : List Candidate) (rest : List CandidateDiagnostics) (j : ℕ) → j < length found
+    → getD (candidatesShown n r found ++ rest) j blankCandidate .«offset_ms» ≡ getD found j blank .«offset_ms»
 unfolding candidatesShown
-offset-at hop w [] rest j h = absurd (not-suc-le-zero h)
-offset-at hop w (c ∷ found) rest zero h = refl
-offset-at hop w (c ∷ found) rest (suc j) h = offset-at hop w found rest j (le-of-suc-le-suc h)
+offset-at n r [] rest j h = absurd (not-suc-le-zero h)
+offset-at n r (c ∷ found) rest zero h = refl
+offset-at n r (c ∷ found) rest (suc j) h = offset-at n r found rest j (le-of-suc-le-suc h)
 
 -- candidate j of a snapshot is candidate j of its search
 offset-shown : (hop : Float) (w : Window) (found : List Candidate) (s : Snapshot) → Shows hop w found s → (j : ℕ) → j < length found
     → getD (s .diagnostics .candidates) j blankCandidate .«offset_ms» ≡ getD found j blank .«offset_ms»
-offset-shown hop w found s h j l = ap (λ (x : List CandidateDiagnostics). getD x j blankCandidate .«offset_ms») (h .candidates) ∙ offset-at hop w found _ j l
+offset-shown hop w found s h j l = ap (λ (x : List CandidateDiagnostics). getD x j blankCandidate .«offset_ms») (h .candidates) ∙ offset-at _ _ found _ j l
 
 pub apart-shown : (hop : Float) (w : Window) (found : List Candidate) (s : Snapshot) → Shows hop w found s → Pairs Far found
     → (j k : ℕ) → j < k → k < s .diagnostics .«candidate_count» → Apart s j k

@@ -7,8 +7,10 @@ use lib.Ieee.{Float}
 use Rattle.matcher_spec.specs.declared.types.Candidate.{Candidate}
 use Rattle.matcher_spec.specs.Index.{Matcher}
 use Rattle.engine_spec.specs.Windows.{Window}
-use Rattle.engine_spec.specs.Locking.{Reached, Searched, afterPassing, afterChain}
-use Rattle.engine_spec.specs.Submitting.{isThere, stampedOnce, stampedWithFinal, stamp}
+use Rattle.engine_spec.specs.Locking.{Searched}
+use Rattle.engine_spec.specs.declared.types.Reached.{Reached}
+use Rattle.engine_spec.specs.Milestones.{afterPassing, afterChain, stampedOnce, stampedWithFinal, stamp}
+use Rattle.engine_spec.specs.Cases.{isThere}
 use Rattle.engine_spec.specs.declared.types.ClockMs.{ClockMs}
 use Rattle.engine_spec.specs.declared.types.Milestones.{Milestones}
 use Rattle.engine_spec.specs.declared.types.Milestone.{Milestone}
@@ -22,9 +24,9 @@ pub record Marked (m m' : Milestones) (lock : Bool) : Type 0 where
   pub there-is : isThere (m' .«final_ms») ≡ (isThere (m .«final_ms») || lock)
   pub lasting : T (isThere (m .«final_ms»)) → m' .«final_ms» ≡ m .«final_ms»
 
-pub marked : (m : Milestones) (k : Reached) (lock : Bool) (c : ClockMs) → m .«confirmed_ms» ≡ m .«final_ms» → k .final ≡ (isThere (m .«final_ms») || lock) → Marked m (stamp m k c) lock
+pub marked : (m : Milestones) (k : Reached) (lock : Bool) (c : ClockMs) → m .«confirmed_ms» ≡ m .«final_ms» → k .«final_lock» ≡ (isThere (m .«final_ms») || lock) → Marked m (stamp m k c) lock
 unfolding stamp
-marked m k lock c e f = record { same = alike (m .«final_ms») (m .«confirmed_ms») (k .final) e; there-is = is (m .«final_ms») (k .final) f; lasting = lasts (m .«final_ms») (k .final) }
+marked m k lock c e f = record { same = alike (m .«final_ms») (m .«confirmed_ms») (k .«final_lock») e; there-is = is (m .«final_ms») (k .«final_lock») f; lasting = lasts (m .«final_ms») (k .«final_lock») }
   where
     alike : (x y : Milestone) (b : Bool) → y ≡ x → stampedWithFinal b x y c ≡ stampedOnce b x c
     alike milestone.Absent y true e = refl
@@ -52,11 +54,11 @@ or-true true = refl
 or-true false = refl
 
 -- final is there after the searches where it was, or where a chain ends
-pub final-after : (m : Matcher) (hop : Float) (w : Window) (k : Reached) (p : Hypothesis) (s : Searched) (global : Bool) (found : List Candidate) (lock : Bool) → Pend m hop w k p s global found lock → s .reached .final ≡ (k .final || lock)
-final-after m hop w k p s global found lock (same e z) = ap (λ (r : Reached). r .final) z ∙ or-false (k .final)
-final-after m hop w k p s global found lock (weak q t e z) = ap (λ (r : Reached). r .final) z ∙ or-false (k .final)
-final-after m hop w k p s global found lock (pass {lock = x} q t e y z) = ap (λ (r : Reached). r .final) z ∙ go x
+pub final-after : (m : Matcher) (hop : Float) (w : Window) (k : Reached) (p : Hypothesis) (s : Searched) (global : Bool) (found : List Candidate) (lock : Bool) → Pend m hop w k p s global found lock → s .reached .«final_lock» ≡ (k .«final_lock» || lock)
+final-after m hop w k p s global found lock (same e z) = ap (λ (r : Reached). r .«final_lock») z ∙ or-false (k .«final_lock»)
+final-after m hop w k p s global found lock (weak q t e z) = ap (λ (r : Reached). r .«final_lock») z ∙ or-false (k .«final_lock»)
+final-after m hop w k p s global found lock (pass {lock = x} q t e y z) = ap (λ (r : Reached). r .«final_lock») z ∙ go x
   where
-    go : (x : Bool) → cond x (afterChain k) (afterPassing k) .final ≡ (k .final || x)
-    go true = or-true (k .final)
-    go false = or-false (k .final)
+    go : (x : Bool) → cond x (afterChain k) (afterPassing k) .«final_lock» ≡ (k .«final_lock» || x)
+    go true = or-true (k .«final_lock»)
+    go false = or-false (k .«final_lock»)

@@ -14,18 +14,21 @@ use Rattle.matcher_spec.specs.Index.{Matcher}
 use Rattle.matcher_spec.specs.Search.{wholeSearch}
 use Rattle.matcher_spec.proofs.ResultLaws.{whole-apart}
 use Rattle.engine_spec.specs.Thresholds.{rereadMs}
-use Rattle.engine_spec.specs.Windows.{Window, indexed, query, endpointOf, duration, _after_, acceptsTimeline, jumpsFrom, rereadsFrom, jumps, rereads}
-use Rattle.engine_spec.specs.Refusals.{Submission}
+use Rattle.engine_spec.specs.Windows.{Window, indexed, query, endpointOf, evidence, duration, _after_, acceptsTimeline, jumpsFrom, rereadsFrom, jumps, rereads, Submission}
 use Rattle.engine_spec.specs.Opening.{noLock, freshEngine}
-use Rattle.engine_spec.specs.Readiness.{readiness, isNone, averageEnergy, activeFraction, minimumDuration}
-use Rattle.engine_spec.specs.Locking.{Reached, Searched, searched}
+use Rattle.engine_spec.specs.Readiness.{readiness, averageEnergy, activeFraction, minimumDuration}
+use Rattle.engine_spec.specs.Locking.{Searched, searched}
 use Rattle.engine_spec.specs.Publishing.{Decision, ready, unready, decide, publish}
-use Rattle.engine_spec.specs.Submitting.{isThere, reachedBy, stamp, lockFrom, computedFrom}
-use Rattle.engine_spec.specs.Chain.{Answered, windowAt, shownAt, wholeAt, Passes, jumpAt, interrupting, EndsChain}
+use Rattle.engine_spec.specs.Submitting.{lockFrom, computedFrom}
+use Rattle.engine_spec.specs.Chain.{windowAt, shownAt, wholeAt, Passes, jumpAt, EndsChain}
 use Rattle.engine_spec.specs.Guarantee.{Shows, Trusted}
-use Rattle.engine_spec.specs.Guaranteed.{unreachable}
+use Rattle.engine_spec.specs.Cases.{isNone, isThere, interrupting, unreachable}
+use Rattle.engine_spec.specs.declared.types.Reached.{Reached}
+use Rattle.engine_spec.specs.Milestones.{milestonesShown, reachedBy, stamp}
+use Rattle.engine_spec.specs.Lists.{Answered}
 use Rattle.engine_spec.specs.declared.types.RecordedMs.{RecordedMs}
 use Rattle.engine_spec.specs.declared.types.ClockMs.{ClockMs}
+use Rattle.engine_spec.specs.declared.types.Configuration.{Configuration}
 use Rattle.engine_spec.specs.declared.types.Settings.{Settings}
 use Rattle.engine_spec.specs.declared.types.Lock.{Lock}
 use Rattle.engine_spec.specs.declared.types.Milestones.{Milestones}
@@ -65,11 +68,10 @@ searched-if true false false quiet few t = absurd t
 searched-if true false true quiet few t = (tt, tt)
 
 -- has an index and an accepted timeline
-ready-window : (s : Settings) (confirmed : Bool) (w : Window) → T (isNone (readiness s confirmed w)) → T (indexed s) × T (acceptsTimeline s w)
+ready-window : (c : Configuration) (s : Settings) (confirmed : Bool) (w : Window) → T (isNone (readiness c s confirmed w)) → T (indexed s) × T (acceptsTimeline s w)
 unfolding readiness
-ready-window s confirmed w t =
-    let c = s .configuration in
-    searched-if (indexed s) (lt (duration w) (minimumDuration s confirmed)) (acceptsTimeline s w) (lt (averageEnergy w) (c .«minimum_average_energy_dbfs»)) (lt (activeFraction c w) (c .«minimum_active_frame_fraction»)) t
+ready-window c s confirmed w t =
+    searched-if (indexed s) (lt (duration w) (minimumDuration c (s .«hop_ms») confirmed)) (acceptsTimeline s w) (lt (averageEnergy w) (c .«minimum_average_energy_dbfs»)) (lt (activeFraction c w) (c .«minimum_active_frame_fraction»)) t
 
 -- neither a jump nor a re-reading: it goes on by 90 or more
 goes-on : (s : Settings) (last : RecordedMs) (w : Window) → T (acceptsTimeline s w) → rereadsFrom s last w ≡ false → T (not (jumpsFrom (s .«hop_ms») last w)) → T (not (lt (endpointOf w after last) rereadMs))
@@ -84,9 +86,9 @@ goes-on s last w t = go (jumpsFrom (s .«hop_ms») last w) (lt (endpointOf w aft
     go false true false false t e n = absurd t
 
 -- a snapshot carries the milestones as stamped
-shown-milestones : (s : Settings) (w : Window) (d : Decision) (ms : Milestones) → publish s w d ms .milestones ≡ ms
+shown-milestones : (c : Configuration) (hop : Float) (w : Window) (d : Decision) (ms : Milestones) → milestonesShown (publish c hop w d ms) ≡ ms
 unfolding publish
-shown-milestones s w d ms = refl
+shown-milestones c hop w d ms = refl
 
 -- an interrupting answer breaks a chain, and is not Locked
 broken : (j q : Bool) → T q → T (not (j || q)) → ⊥
@@ -121,11 +123,11 @@ module _ (s : Settings) (m : Matcher) (a : ℕ → Answered) where
     pub accepted : Accepted (s .«hop_ms») a n (e .lock .accepted)
     pub there-if : T (isThere (e .milestones .«final_ms»)) → (j : ℕ) × (j < n) × EndsChain (s .«hop_ms») a j
     pub only-if : (j : ℕ) → j < n → EndsChain (s .«hop_ms») a j → T (isThere (e .milestones .«final_ms»))
-    pub lasting : (j : ℕ) → j < n → T (isThere (shownAt (s .«hop_ms») a j .milestones .«final_ms»)) → e .milestones .«final_ms» ≡ shownAt (s .«hop_ms») a j .milestones .«final_ms»
+    pub lasting : (j : ℕ) → j < n → T (isThere (shownAt (s .«hop_ms») a j .«final_lock_elapsed_ms»)) → e .milestones .«final_ms» ≡ shownAt (s .«hop_ms») a j .«final_lock_elapsed_ms»
 
-  pub start : Inv 0 (freshEngine s)
+  pub start : (c : Configuration) → Inv 0 (freshEngine c s)
   unfolding freshEngine
-  start = record {
+  start c = record {
     settings = refl;
     endpoint = refl;
     same = refl;
@@ -140,23 +142,23 @@ module _ (s : Settings) (m : Matcher) (a : ℕ → Answered) where
   -- ---- the answer n, where it is decided by d on milestones k
   record Made (n : ℕ) (k : Reached) (d : Decision) : Type 0 where
     lock : Bool
-    final-is : d .reached .final ≡ (k .final || lock)
+    final-is : d .reached .«final_lock» ≡ (k .«final_lock» || lock)
     ends : T lock → EndsChain hop a n
     lock-if : EndsChain hop a n → T lock
     pending : Pending hop a (suc n) (d .lock .pending)
     accepted : Accepted hop a (suc n) (d .lock .accepted)
     locked : shownAt hop a n .state ≡ state.Locked → LockedWell hop a n
     searched : T (wholeAt hop a n) → Shows hop (w n) (wholeSearch m (query (w n))) (shownAt hop a n)
-    usual : (T (isHeld (d .lock .accepted)) → T (d .reached .final)) → unreachable (shownAt hop a n .state) ≡ false
+    usual : (T (isHeld (d .lock .accepted)) → T (d .reached .«final_lock»)) → unreachable (shownAt hop a n .state) ≡ false
 
   -- the window could not be searched: an interruption
-  interrupting-made : (n : ℕ) (k : Reached) (l : Lock) (r : WithholdReason) (ms : Milestones) → T (not (isNone r)) → shownAt hop a n ≡ publish s (w n) (unready s k l r) ms → Made n k (unready s k l r)
-  interrupting-made n k l r ms h v =
-      let q : Silence (shownAt hop a n) = subst (λ (x : Snapshot). Silence x) (sym v) (silenced s (w n) k l r ms h) in
+  interrupting-made : (c : Configuration) (n : ℕ) (k : Reached) (l : Lock) (r : WithholdReason) (ms : Milestones) → T (not (isNone r)) → shownAt hop a n ≡ publish c hop (w n) (unready s k l r) ms → Made n k (unready s k l r)
+  interrupting-made c n k l r ms h v =
+      let q : Silence (shownAt hop a n) = subst (λ (x : Snapshot). Silence x) (sym v) (silenced c hop s (w n) k l r ms h) in
       let np : Passes hop a n → ⊥ = λ t. subst (λ (b : Bool). T b) (passes-is (shownAt hop a n) false [] (q .shown)) t in
       record {
         lock = false;
-        final-is = or-false (k .final);
+        final-is = or-false (k .«final_lock»);
         ends = λ t. absurd t;
         lock-if = λ c. np (c .1 .last);
         pending = idle (λ i o. elim (below-or i n (o .order)) [
@@ -170,12 +172,12 @@ module _ (s : Settings) (m : Matcher) (a : ℕ → Answered) where
       }
 
   -- it was searched
-  ready-made : (n : ℕ) (k : Reached) (l : Lock) (ms : Milestones) → T (finite (trim s)) → NumberHalves m (w n) → Timely hop a (suc n) → Anew hop a n → Ready hop a n (l .pending) → Tracked hop a n (l .accepted)
-      → let d = ready hop (w n) (searched m hop (w n) k l) in shownAt hop a n ≡ publish s (w n) d ms → Made n k d
-  ready-made n k l ms f nh tm new rd tr v =
-      let se = searched m hop (w n) k l in
-      let x : Effects m hop (w n) k l se = effects m hop (w n) k l in
-      let y : View hop (w n) se (shownAt hop a n) = subst (λ (z : Snapshot). View hop (w n) se z) (sym v) (viewed s (w n) se l ms (tm .evidence n (le-refl (suc n))) (x .lock) (x .track)) in
+  ready-made : (granted : Bool) (c : Configuration) (n : ℕ) (k : Reached) (l : Lock) (ms : Milestones) → T (finite (trim s)) → NumberHalves m (w n) → Timely hop a (suc n) → Anew hop a n → Ready hop a n (l .pending) → Tracked hop a n (l .accepted)
+      → let d = ready (evidence hop (w n)) (searched granted m hop (w n) k l) in shownAt hop a n ≡ publish c hop (w n) d ms → Made n k d
+  ready-made granted c n k l ms f nh tm new rd tr v =
+      let se = searched granted m hop (w n) k l in
+      let x : Effects m hop (w n) k l se = effects granted m hop (w n) k l in
+      let y : View hop (w n) se (shownAt hop a n) = subst (λ (z : Snapshot). View hop (w n) se z) (sym v) (viewed c hop (w n) se l ms (tm .evidence n (le-refl (suc n))) (x .lock) (x .track)) in
       let o = pend-step hop a n (y .loud) m k (l .pending) se (se .global) (se .found) (x .lock) f nh tm rd (y .shown) (x .pend) in
       let acc : Accepted hop a (suc n) (se .lock .accepted) = track-step hop a n (x .lock) (l .accepted) (se .lock .accepted) (se .supported) (y .loud) (y .reason) (o .ends) tr (x .track) in
       record {
@@ -189,7 +191,7 @@ module _ (s : Settings) (m : Matcher) (a : ℕ → Answered) where
         searched = λ t.
             let whole : T (se .global) = subst (λ (b : Bool). T b) (y .shown .whole) t in
             subst (λ (found : List Candidate). Shows hop (w n) found (shownAt hop a n)) (found-is m hop (w n) k (l .pending) se (se .global) (se .found) (x .lock) (x .pend) whole)
-            (subst (λ (z : Snapshot). Shows hop (w n) (se .found) z) (sym v) (shows-whole s (w n) (ready hop (w n) se) ms whole));
+            (subst (λ (z : Snapshot). Shows hop (w n) (se .found) z) (sym v) (shows-whole c hop (w n) (ready (evidence hop (w n)) se) ms whole));
         usual = y .usual;
       }
 
@@ -198,14 +200,14 @@ module _ (s : Settings) (m : Matcher) (a : ℕ → Answered) where
   anew zero t r = tt
   anew (suc n) t r = goes-on s (endpointOf (w n)) (w (suc n)) t r
 
-  decided-made : (n : ℕ) (k : Reached) (l : Lock) (ms : Milestones) → T (finite (trim s)) → Fair s m (w n) → Timely hop a (suc n) → rereads s (prevEnd n) (w n) ≡ false → Ready hop a n (l .pending) → Tracked hop a n (l .accepted)
-      → shownAt hop a n ≡ publish s (w n) (decide s m (w n) k l) ms → Made n k (decide s m (w n) k l)
+  decided-made : (granted : Bool) (c : Configuration) (n : ℕ) (k : Reached) (l : Lock) (ms : Milestones) → T (finite (trim s)) → Fair s m (w n) → Timely hop a (suc n) → rereads s (prevEnd n) (w n) ≡ false → Ready hop a n (l .pending) → Tracked hop a n (l .accepted)
+      → shownAt hop a n ≡ publish c hop (w n) (decide granted c s m (w n) k l) ms → Made n k (decide granted c s m (w n) k l)
   unfolding decide
-  decided-made n k l ms f fair tm nr rd tr =
-      let r = readiness s (k .confirmed) (w n) in
-      cond-elim (λ (d : Decision). shownAt hop a n ≡ publish s (w n) d ms → Made n k d) (isNone r) (ready hop (w n) (searched m hop (w n) k l)) (unready s k l r)
-      (λ t v. let x = ready-window s (k .confirmed) (w n) t in ready-made n k l ms f (fair .halves (x .0)) tm (anew n (x .1) nr) rd tr v)
-      (λ t v. interrupting-made n k l r ms t v)
+  decided-made granted c n k l ms f fair tm nr rd tr =
+      let r = readiness c s (k .confirmed) (w n) in
+      cond-elim (λ (d : Decision). shownAt hop a n ≡ publish c hop (w n) d ms → Made n k d) (isNone r) (ready (evidence hop (w n)) (searched granted m hop (w n) k l)) (unready s k l r)
+      (λ t v. let x = ready-window c s (k .confirmed) (w n) t in ready-made granted c n k l ms f (fair .halves (x .0)) tm (anew n (x .1) nr) rd tr v)
+      (λ t v. interrupting-made c n k l r ms t v)
 
   -- ---- what the answer before left, a jump taken account of
   jump-is : (n : ℕ) (e : Engine) → Inv n e → jumps (e .settings) (e .last .«endpoint_ms») (w n) ≡ jumpAt hop a n
@@ -237,19 +239,19 @@ module _ (s : Settings) (m : Matcher) (a : ℕ → Answered) where
     pub usual : unreachable (a n .snapshot .state) ≡ false
 
   -- a track is accepted only where final is there
-  held-final : (n : ℕ) (k : Reached) (d : Decision) (p : Hypothesis) → ((j : ℕ) → j < n → EndsChain hop a j → T (k .final)) → (x : Made n k d) → Accepted hop a (suc n) p → T (isHeld p) → T (d .reached .final)
+  held-final : (n : ℕ) (k : Reached) (d : Decision) (p : Hypothesis) → ((j : ℕ) → j < n → EndsChain hop a j → T (k .«final_lock»)) → (x : Made n k d) → Accepted hop a (suc n) p → T (isHeld p) → T (d .reached .«final_lock»)
   held-final n k d p only x no-track t = absurd t
   held-final n k d p only x (on-track h) t = subst (λ (b : Bool). T b) (sym (x .final-is)) (elim (below-or (h .chain) n (h .order)) [
-    | inl b ↦ or-l (k .final) (x .lock) (only (h .chain) b (h .ends))
-    | inr e ↦ or-r (k .final) (x .lock) (x .lock-if (subst (λ (j : ℕ). EndsChain hop a j) e (h .ends)))
+    | inl b ↦ or-l (k .«final_lock») (x .lock) (only (h .chain) b (h .ends))
+    | inr e ↦ or-r (k .«final_lock») (x .lock) (x .lock-if (subst (λ (j : ℕ). EndsChain hop a j) e (h .ends)))
   ])
 
   made-next : (n : ℕ) (e e' : Engine) (d : Decision) (clock : ClockMs) → Timely hop a (suc n) → Inv n e → Made n (reachedBy (e .milestones)) d
-      → e' .settings ≡ s → e' .last .«endpoint_ms» ≡ prevEnd (suc n) → e' .lock ≡ d .lock → e' .milestones ≡ stamp (e .milestones) (d .reached) clock → shownAt hop a n .milestones ≡ e' .milestones → Next n e'
+      → e' .settings ≡ s → e' .last .«endpoint_ms» ≡ prevEnd (suc n) → e' .lock ≡ d .lock → e' .milestones ≡ stamp (e .milestones) (d .reached) clock → milestonesShown (shownAt hop a n) ≡ e' .milestones → Next n e'
   made-next n e e' d clock tm inv x settings-is endpoint-is lock-is milestones-is shown-is =
       let before = e .milestones .«final_ms» in
       let now = e' .milestones .«final_ms» in
-      let shown : ℕ → Milestone = λ j. shownAt hop a j .milestones .«final_ms» in
+      let shown : ℕ → Milestone = λ j. shownAt hop a j .«final_lock_elapsed_ms» in
       let mk : Marked (e .milestones) (e' .milestones) (x .lock) = subst (λ (z : Milestones). Marked (e .milestones) z (x .lock)) (sym milestones-is) (marked (e .milestones) (d .reached) (x .lock) clock (inv .same) (x .final-is)) in
       let is : shown n ≡ now = ap (λ (z : Milestones). z .«final_ms») shown-is in
       let there-if : T (isThere now) → (j : ℕ) × (j < suc n) × EndsChain hop a j = λ t. elim (or-split (isThere before) (x .lock) (subst (λ (b : Bool). T b) (mk .there-is) t)) [
@@ -292,33 +294,29 @@ module _ (s : Settings) (m : Matcher) (a : ℕ → Answered) where
         usual = x .usual (held-final n (reachedBy (e .milestones)) d (d .lock .accepted) (inv .only-if) x (x .accepted));
       }
 
-  -- i with this window
-  abbrev showing : Submission → Window → Submission
-  showing i v = record { index = i .index; window = v; clock = i .clock; room32 = i .room32; room64 = i .room64 }
-
   abbrev decided : Engine → Window → Decision
-  decided e v = decide s m v (reachedBy (e .milestones)) (lockFrom e v)
+  decided e v = decide true (e .configuration) s m v (reachedBy (e .milestones)) (lockFrom e v)
 
   -- the step, of the window as it stands among the answers
-  next-of : (n : ℕ) (e : Engine) (i : Submission) → T (finite (trim s)) → Inv n e → Fair s m (w n) → rereads s (e .last .«endpoint_ms») (w n) ≡ false
-      → let c = computedFrom e (showing i (w n)) (decided e (w n)) in shownAt hop a n ≡ c .snapshot → Next n (c .engine)
+  next-of : (n : ℕ) (e : Engine) (clock : ClockMs) → T (finite (trim s)) → Inv n e → Fair s m (w n) → rereads s (e .last .«endpoint_ms») (w n) ≡ false
+      → let c = computedFrom e (w n) clock (decided e (w n)) in shownAt hop a n ≡ c .snapshot → Next n (c .engine)
   unfolding computedFrom
-  next-of n e i f inv fair nr v =
+  next-of n e clock f inv fair nr v =
       let d = decided e (w n) in
-      let ms = stamp (e .milestones) (d .reached) (i .clock) in
+      let ms = stamp (e .milestones) (d .reached) clock in
       let tm = timely-up hop a n (inv .timely) (fair .endpoint) (fair .evidence) in
       let r = lock-ready n e inv in
-      let v' : shownAt hop a n ≡ publish s (w n) d ms = v ∙ ap (λ (z : Settings). publish z (w n) d ms) (inv .settings) in
-      let x = decided-made n (reachedBy (e .milestones)) (lockFrom e (w n)) ms f fair tm (ap (λ (z : Endpoint). rereads s z (w n)) (sym (inv .endpoint)) ∙ nr) (r .0) (r .1) v' in
-      made-next n e (computedFrom e (showing i (w n)) d .engine) d (i .clock) tm inv x (inv .settings) refl refl refl
-      (ap (λ (z : Snapshot). z .milestones) v' ∙ shown-milestones s (w n) d ms)
+      let v' : shownAt hop a n ≡ publish (e .configuration) hop (w n) d ms = v ∙ ap (λ (z : Settings). publish (e .configuration) (z .«hop_ms») (w n) d ms) (inv .settings) in
+      let x = decided-made true (e .configuration) n (reachedBy (e .milestones)) (lockFrom e (w n)) ms f fair tm (ap (λ (z : Endpoint). rereads s z (w n)) (sym (inv .endpoint)) ∙ nr) (r .0) (r .1) v' in
+      made-next n e (computedFrom e (w n) clock d .engine) d clock tm inv x (inv .settings) refl refl refl
+      (ap milestonesShown v' ∙ shown-milestones (e .configuration) hop (w n) d ms)
 
   -- The answer n, computed by the state e from the submission i, which is not a re-reading.
   pub next : (n : ℕ) (e : Engine) (i : Submission) → T (finite (trim s)) → Inv n e → Fair s m (i .window) → a n .submission .window ≡ i .window
       → rereads s (e .last .«endpoint_ms») (i .window) ≡ false
-      → let d = decide s m (i .window) (reachedBy (e .milestones)) (lockFrom e (i .window)) in
-      a n .snapshot ≡ computedFrom e i d .snapshot → Next n (computedFrom e i d .engine)
+      → let x = computedFrom e (i .window) (i .clock) (decide true (e .configuration) s m (i .window) (reachedBy (e .milestones)) (lockFrom e (i .window))) in
+      a n .snapshot ≡ x .snapshot → Next n (x .engine)
   next n e i f inv fair q nr v =
       subst (λ (x : Window). Fair s m x → rereads s (e .last .«endpoint_ms») x ≡ false
-      → a n .snapshot ≡ computedFrom e (showing i x) (decided e x) .snapshot → Next n (computedFrom e (showing i x) (decided e x) .engine))
-      q (λ g h u. next-of n e i f inv g h u) fair nr v
+      → a n .snapshot ≡ computedFrom e x (i .clock) (decided e x) .snapshot → Next n (computedFrom e x (i .clock) (decided e x) .engine))
+      q (λ g h u. next-of n e (i .clock) f inv g h u) fair nr v

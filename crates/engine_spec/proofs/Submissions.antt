@@ -5,15 +5,18 @@ use mathlib.Core.Path.{_≡_, refl, sym, ap, ap₂, _∙_, subst}
 use lib.Dec.{T}
 use lib.Ieee.Scale.{finite}
 use Rattle.matcher_spec.specs.Index.{Matcher}
-use Rattle.engine_spec.specs.Windows.{Window, endpointOf, rereads}
-use Rattle.engine_spec.specs.Refusals.{Submission, numberOf, refuses, handedRefusal, submissionRefusal}
+use Rattle.engine_spec.specs.Windows.{Window, endpointOf, rereads, Submission}
+use Rattle.engine_spec.specs.Refusals.{refuses, validConfiguration, validSettings, handedRefusal, submissionRefusal}
 use Rattle.engine_spec.specs.Opening.{freshEngine}
 use Rattle.engine_spec.specs.Publishing.{Decision, decide}
-use Rattle.engine_spec.specs.Submitting.{reachedBy, lockFrom, decisionOn, reread, computedFrom, refused, answeredFrom, submit}
-use Rattle.engine_spec.specs.Chain.{Answered}
-use Rattle.engine_spec.specs.Guarantee.{answersTo, engineAfter, isComputed, remaining, Handed, AllHanded, nothing, next, answers, answerTo, toldBy}
+use Rattle.engine_spec.specs.Submitting.{lockFrom, decisionOn, reread, computedFrom, refused, answeredFrom, submit}
+use Rattle.engine_spec.specs.Guarantee.{Handed, AllHanded, nothing, next, answers, answerTo, toldBy}
+use Rattle.engine_spec.specs.Milestones.{reachedBy}
+use Rattle.engine_spec.specs.Lists.{Answered, answersTo, engineAfter, remaining}
+use Rattle.engine_spec.specs.Cases.{isComputed}
 use Rattle.engine_spec.proofs.Effects.{Fair, trim}
-use Rattle.engine_spec.proofs.Validity.{Safe, safe-valid}
+use Rattle.engine_spec.proofs.Validity.{Safe, safe-valid, safe-fresh}
+use Rattle.engine_spec.specs.declared.types.Configuration.{Configuration}
 use Rattle.engine_spec.specs.declared.types.Settings.{Settings}
 use Rattle.engine_spec.specs.declared.types.Engine.{Engine}
 use Rattle.engine_spec.specs.declared.types.SubmitResult.{SubmitResult}
@@ -28,10 +31,10 @@ clash h = absurd (subst (λ (b : Bool). T b) h tt)
 
 -- ---- the decision that a matcher brings, and what is computed from it
 abbrev pub decisionBy : Settings → Matcher → Engine → Submission → Decision
-decisionBy s m e i = decide s m (i .window) (reachedBy (e .milestones)) (lockFrom e (i .window))
+decisionBy s m e i = decide true (e .configuration) s m (i .window) (reachedBy (e .milestones)) (lockFrom e (i .window))
 
 abbrev pub computedBy : Settings → Matcher → Engine → Submission → SubmitResult
-computedBy s m e i = computedFrom e i (decisionBy s m e i)
+computedBy s m e i = computedFrom e (i .window) (i .clock) (decisionBy s m e i)
 
 -- ---- a state that is reached
 abbrev pub isAt : Endpoint → Bool
@@ -47,35 +50,15 @@ pub record Good (s : Settings) (e : Engine) : Type 0 where
 -- ---- all that the list's proof takes of an opening, gathered here
 pub record Grounds (s : Settings) (m : Matcher) : Type 0 where
   pub trimmed : T (finite (trim s))
-  pub fresh : Safe (freshEngine s)
+  pub valid : validSettings s ≡ true
   pub clocked : (i : Submission) → refuses (handedRefusal s i) ≡ false → T (finite (i .clock .0))
   pub fair : (i : Submission) → Handed s m i → refuses (handedRefusal s i) ≡ false → Fair s m (i .window)
   pub decision : (e : Engine) (i : Submission) → e .settings ≡ s → Handed s m i → refuses (handedRefusal s i) ≡ false → decisionOn e i ≡ decisionBy s m e i
   pub safe : (e : Engine) (i : Submission) → Good s e → Handed s m i → refuses (handedRefusal s i) ≡ false → Safe (computedBy s m e i .engine)
 
-pub good-fresh : (s : Settings) (m : Matcher) → Grounds s m → Good s (freshEngine s)
+pub good-fresh : (c : Configuration) (s : Settings) (m : Matcher) → Grounds s m → validConfiguration c ≡ true → Good s (freshEngine c s)
 unfolding freshEngine
-good-fresh s m g = record { settings = refl; safe = g .fresh; shown = refl }
-
--- ---- a refusal is never a computed answer
-pub refusal-struck : (r : Answer) → refuses r ≡ true → isComputed r ≡ false
-unfolding numberOf isComputed
-refusal-struck answer.Opened q = clash (sym q)
-refusal-struck answer.Computed q = clash (sym q)
-refusal-struck answer.Reread q = clash (sym q)
-refusal-struck answer.InvalidConfiguration q = refl
-refusal-struck answer.HopOutOfRange q = refl
-refusal-struck answer.ReferenceTooLarge q = refl
-refusal-struck answer.ReferenceMiscounted q = refl
-refusal-struck answer.ReferenceTimeTooFar q = refl
-refusal-struck answer.IndexTooShort q = refl
-refusal-struck answer.StateOutOfRange q = refl
-refusal-struck answer.ClockNotFinite q = refl
-refusal-struck answer.NoFrames q = refl
-refusal-struck answer.WindowTooLarge q = refl
-refusal-struck answer.WindowInvalid q = refl
-refusal-struck answer.WindowTimeOutOfRange q = refl
-refusal-struck answer.WorkTooShort q = refl
+good-fresh c s m g v = record { settings = refl; safe = safe-fresh c s v (g .valid); shown = refl }
 
 -- ---- the three kinds of answers
 module _ (s : Settings) (m : Matcher) where
@@ -87,7 +70,7 @@ module _ (s : Settings) (m : Matcher) where
 
   pub data Kind (e : Engine) (i : Submission) : SubmitResult → Type 0 where
     refusal : refuses (handedRefusal s i) ≡ true → Kind e i (refused e (handedRefusal s i))
-    again : refuses (handedRefusal s i) ≡ false → rereads s (e .last .«endpoint_ms») (i .window) ≡ true → Kind e i (reread e (i .window))
+    again : refuses (handedRefusal s i) ≡ false → rereads s (e .last .«endpoint_ms») (i .window) ≡ true → Kind e i (reread e (endpointOf (i .window)))
     computed : New e i → Kind e i (computedBy s m e i)
 
 -- 7 is not answered: only what is handed in may be refused
@@ -113,11 +96,11 @@ kind s m g e i good h =
     (go (refuses (handedRefusal s i)) (rereads s (e .last .«endpoint_ms») (i .window)) refl refl)
   where
     go : (r a : Bool) → refuses (handedRefusal s i) ≡ r → rereads s (e .last .«endpoint_ms») (i .window) ≡ a
-        → Kind s m e i (cond r (refused e (handedRefusal s i)) (cond a (reread e (i .window)) (computedFrom e i (decisionOn e i))))
+        → Kind s m e i (cond r (refused e (handedRefusal s i)) (cond a (reread e (endpointOf (i .window))) (computedFrom e (i .window) (i .clock) (decisionOn e i))))
     go true a q p = refusal q
     go false true q p = again q p
     go false false q p =
-        subst (λ (d : Decision). Kind s m e i (computedFrom e i d)) (sym (g .decision e i (good .settings) h q))
+        subst (λ (d : Decision). Kind s m e i (computedFrom e (i .window) (i .clock) d)) (sym (g .decision e i (good .settings) h q))
         (computed (record { handed = h; answered = q; anew = p }))
 
 -- ---- the next state is one that is reached
@@ -162,7 +145,7 @@ module _ (s : Settings) (m : Matcher) (e : Engine) (i : Submission) where
 
   endpoint-is : (x : SubmitResult) → Kind s m e i x → x .engine .last .«endpoint_ms» ≡ cond (isComputed toldHere) (endpoint.At (endpointOf (i .window))) (e .last .«endpoint_ms»)
   unfolding answerTo reread computedFrom isComputed
-  endpoint-is x (refusal q) = rw (q, refusal-struck (handedRefusal s i) q) refl
+  endpoint-is x (refusal q) = rw q refl
   endpoint-is x (again q p) = rw (q, p) refl
   endpoint-is x (computed n) = rw (n .answered, n .anew) refl
 
@@ -181,6 +164,6 @@ pub trace : (s : Settings) (m : Matcher) (e : Engine) (l : List Submission) (A :
 unfolding remaining isComputed reread computedFrom
 trace s m e l A stop = end
 trace s m e l A (step {i = i} {l = k} {A = B} good (refusal q) rest) =
-    rw (refusal-struck (handedRefusal s i) q) (trace s m e k B rest)
+    trace s m e k B rest
 trace s m e l A (step {l = k} {A = B} good (again q p) rest) = trace s m e k B rest
 trace s m e l A (step {i = i} {l = k} {A = B} good (computed n) rest) = more good n (trace s m (computedBy s m e i .engine) k B rest)

@@ -19,16 +19,21 @@ use Rattle.matcher_spec.specs.Search.{wholeSearch, localSearch}
 use Rattle.matcher_spec.specs.SoundSearch.{SoundResult}
 use Rattle.numbers_spec.proofs.Within.{within-at-most}
 use Rattle.engine_spec.specs.Thresholds.{samePlaceMs, supportCorrelation, supportRecent}
-use Rattle.engine_spec.specs.Windows.{Window, indexed, query, endpointOf, evidence, jumps, _after_}
-use Rattle.engine_spec.specs.Refusals.{Submission, within, near, hopInRange, validConfiguration, validSettings, trackNumber, validHypothesis, validSearchTime, validLock, validMilestone, validMilestones, validEndpoint, validEstimate, validSnapshot, validLast, validEngine}
-use Rattle.engine_spec.specs.Opening.{noLock, noMilestones, freshEngine}
-use Rattle.engine_spec.specs.Readiness.{readiness, isNone}
-use Rattle.engine_spec.specs.Tracking.{samePlace, Tracked, mayCoast, supports, followed, tracked}
-use Rattle.engine_spec.specs.Locking.{Reached, Searched, wholeDue, passing, current, firstEvidence, holds, heldOrDropped, confirms, keptOrReplaced, passed, notPassed, wholeSearched, searched}
-use Rattle.engine_spec.specs.Publishing.{Verdict, Decision, offTrack, onTrack, verdictOf, decide, estimateAt, publish, offsetOf}
-use Rattle.engine_spec.specs.Submitting.{reachedBy, stampedOnce, stampedWithFinal, stamp, lockFrom, computedFrom}
+use Rattle.engine_spec.specs.Windows.{Window, indexed, query, endpointOf, evidence, jumps, _after_, Submission, samePlace, current}
+use Rattle.engine_spec.specs.Refusals.{within, near, hopInRange, validConfiguration, validSettings, trackNumber, validHypothesis, validSearchTime, validLock, validMilestone, validMilestones, validEndpoint, validEstimate, validSnapshot, validLast, validEngine}
+use Rattle.engine_spec.specs.Opening.{noLock, freshEngine}
+use Rattle.engine_spec.specs.Readiness.{readiness}
+use Rattle.engine_spec.specs.Tracking.{Tracked, mayCoast, supports, followed, tracked}
+use Rattle.engine_spec.specs.Locking.{Searched, isDue, passing, firstEvidence, holds, heldOrDropped, confirms, keptOrReplaced, passed, notPassed, wholeSearched, searched}
+use Rattle.engine_spec.specs.Publishing.{Decision, offTrack, onTrack, verdictOf, decide, estimateAt, publish, offsetOf}
+use Rattle.engine_spec.specs.Submitting.{lockFrom, computedFrom}
+use Rattle.engine_spec.specs.Milestones.{noMilestones, reachedBy, stampedOnce, stampedWithFinal, stamp}
+use Rattle.engine_spec.specs.Cases.{isNone}
+use Rattle.engine_spec.specs.declared.types.Reached.{Reached}
+use Rattle.engine_spec.specs.declared.types.Verdict.{Verdict}
 use Rattle.engine_spec.specs.declared.types.RecordedMs.{RecordedMs}
 use Rattle.engine_spec.specs.declared.types.ClockMs.{ClockMs}
+use Rattle.engine_spec.specs.declared.types.Configuration.{Configuration}
 use Rattle.engine_spec.specs.declared.types.Settings.{Settings}
 use Rattle.engine_spec.specs.declared.types.Lock.{Lock}
 use Rattle.engine_spec.specs.declared.types.Milestones.{Milestones}
@@ -60,6 +65,7 @@ pub record LockBounds (l : Lock) : Type 0 where
 
 -- The range of a valid state, 10^13, is too wide for an offset: a snapshot shows it added to the endpoint, and holds the sum to the same range.
 pub record Safe (e : Engine) : Type 0 where
+  pub configuration : validConfiguration (e .configuration) ≡ true
   pub settings : validSettings (e .settings) ≡ true
   pub lock : LockBounds (e .lock)
   pub milestones : T (validMilestones (e .milestones))
@@ -90,8 +96,9 @@ pub safe-valid : (e : Engine) → Safe e → validEngine e ≡ true
 unfolding validEngine
 safe-valid e k =
     T-is _
+    (and-i (validConfiguration (e .configuration)) _ (subst T (sym (k .configuration)) tt)
     (and-i (validSettings (e .settings)) _ (subst T (sym (k .settings)) tt)
-    (and-i (validLock (e .lock)) _ (lock-valid (e .lock) (k .lock)) (and-i (validMilestones (e .milestones)) (validLast (e .last)) (k .milestones) (k .last))))
+    (and-i (validLock (e .lock)) _ (lock-valid (e .lock) (k .lock)) (and-i (validMilestones (e .milestones)) (validLast (e .last)) (k .milestones) (k .last)))))
 
 -- ---- a fresh engine
 -- minus infinity, as noLock has it
@@ -106,12 +113,9 @@ no-milestones : T (validMilestones noMilestones)
 unfolding validMilestones validMilestone
 no-milestones = tt
 
-pub safe-fresh : (s : Settings) → validSettings s ≡ true → Safe (freshEngine s)
+pub safe-fresh : (c : Configuration) (s : Settings) → validConfiguration c ≡ true → validSettings s ≡ true → Safe (freshEngine c s)
 unfolding freshEngine
-safe-fresh s h = record { settings = h; lock = no-lock; milestones = no-milestones; last = unfold validLast validEndpoint in tt }
-
-pub valid-fresh : (s : Settings) → validSettings s ≡ true → validEngine (freshEngine s) ≡ true
-valid-fresh s h = safe-valid (freshEngine s) (safe-fresh s h)
+safe-fresh c s v h = record { configuration = v; settings = h; lock = no-lock; milestones = no-milestones; last = unfold validLast validEndpoint in tt }
 
 -- ---- what a search finds
 record Best (c : Candidate) : Type 0 where
@@ -189,7 +193,7 @@ module _ (m : Matcher) (hop : Float) (w : Window) (N : AtMost trackMost (evidenc
   end-time : T (validSearchTime (endpointOf w))
   end-time = or-l (near (endpointOf w .0)) (eq (endpointOf w .0) (inf true)) near-end
 
-  tracked-well : (h : Hypothesis) → Bounded h → ((lower upper : Float) → SoundResult (localSearch (m .reference) (m .fine) (query w) lower upper)) → TrackedWell (tracked m hop w h)
+  tracked-well : (h : Hypothesis) → Bounded h → ((lower upper : Float) → SoundResult (localSearch (m .reference) (m .fine) (query w) lower upper)) → TrackedWell (tracked m (query w) (evidence hop w) h)
   unfolding tracked
   tracked-well hypothesis.Absent h r = record { accepted = none; few = lit≤ tt }
   tracked-well (hypothesis.Held o f l c) h r =
@@ -197,7 +201,7 @@ module _ (m : Matcher) (hop : Float) (w : Window) (N : AtMost trackMost (evidenc
       (λ t. followed-well (evidence hop w) N o f l c h _ (r _ _))
       (λ t. record { accepted = none; few = lit≤ tt })
 
-  passed-well : (k : Reached) (first : RecordedMs) (t : Tracked) (best : Candidate) (rest : List Candidate) → AtMost trackMost (first .0) → TrackedWell t → SoundResult (best ∷ rest) → SearchedWell (passed hop w k first t best rest)
+  passed-well : (k : Reached) (first : RecordedMs) (t : Tracked) (best : Candidate) (rest : List Candidate) → AtMost trackMost (first .0) → TrackedWell t → SoundResult (best ∷ rest) → SearchedWell (passed hop (evidence hop w) (endpointOf w) k first t best rest)
   unfolding passed
   passed-well k first t best rest F τ r =
       let b = best-of best rest r in
@@ -206,10 +210,10 @@ module _ (m : Matcher) (hop : Float) (w : Window) (N : AtMost trackMost (evidenc
       (λ u. record { lock = record { pending = pending; accepted = kept-or-replaced (evidence hop w) N (t .accepted) (t .supported) best (τ .accepted) b; time = end-time }; few = r .few })
       (λ u. record { lock = record { pending = pending; accepted = τ .accepted; time = end-time }; few = r .few })
 
-  not-passed-well : (k : Reached) (p : Hypothesis) (t : Tracked) (found : List Candidate) → Bounded p → TrackedWell t → SoundResult found → SearchedWell (notPassed hop w k p t found)
+  not-passed-well : (k : Reached) (p : Hypothesis) (t : Tracked) (found : List Candidate) → Bounded p → TrackedWell t → SoundResult found → SearchedWell (notPassed (evidence hop w) (endpointOf w) k p t found)
   not-passed-well k p t found h τ r = record { lock = record { pending = held-or-dropped (evidence hop w) N p found h; accepted = τ .accepted; time = end-time }; few = r .few }
 
-  whole-well : (k : Reached) (p : Hypothesis) (t : Tracked) (found : List Candidate) → Bounded p → TrackedWell t → SoundResult found → SearchedWell (wholeSearched hop w k p t found)
+  whole-well : (k : Reached) (p : Hypothesis) (t : Tracked) (found : List Candidate) → Bounded p → TrackedWell t → SoundResult found → SearchedWell (wholeSearched hop (evidence hop w) (endpointOf w) k p t found)
   unfolding wholeSearched
   whole-well k p t [] h τ r = not-passed-well k p t [] h τ r
   whole-well k p t (best ∷ rest) h τ r =
@@ -217,12 +221,12 @@ module _ (m : Matcher) (hop : Float) (w : Window) (N : AtMost trackMost (evidenc
       (λ u. passed-well k _ t best rest (first-bound (evidence hop w) N p (best .«offset_ms») h) τ r)
       (λ u. not-passed-well k p t (best ∷ rest) h τ r)
 
-  searched-well : (k : Reached) (l : Lock) → LockBounds l → SoundResult (wholeSearch m (query w)) → ((lower upper : Float) → SoundResult (localSearch (m .reference) (m .fine) (query w) lower upper))
-      → SearchedWell (searched m hop w k l)
+  searched-well : (granted : Bool) (k : Reached) (l : Lock) → LockBounds l → SoundResult (wholeSearch m (query w)) → ((lower upper : Float) → SoundResult (localSearch (m .reference) (m .fine) (query w) lower upper))
+      → SearchedWell (searched granted m hop w k l)
   unfolding searched
-  searched-well k l b whole local =
+  searched-well granted k l b whole local =
       let t = tracked-well (l .accepted) (b .accepted) local in
-      cond-elim SearchedWell (wholeDue (tracked m hop w (l .accepted) .supported) (endpointOf w) (l .«last_global_search_ms»)) _ _
+      cond-elim SearchedWell (granted && isDue (tracked m (query w) (evidence hop w) (l .accepted) .supported) (endpointOf w) (l .«last_global_search_ms»)) _ _
       (λ u. whole-well k (l .pending) _ (wholeSearch m (query w)) (b .pending) t whole)
       (λ u. record { lock = record { pending = b .pending; accepted = t .accepted; time = b .time }; few = t .few })
 
@@ -251,17 +255,17 @@ record DecisionWell (d : Decision) : Type 0 where
   offset : Offset (d .verdict .offset)
 
 -- Without index no window is ready.
-ready-indexed : (s : Settings) (confirmed : Bool) (w : Window) → T (isNone (readiness s confirmed w)) → T (indexed s)
+ready-indexed : (c : Configuration) (s : Settings) (confirmed : Bool) (w : Window) → T (isNone (readiness c s confirmed w)) → T (indexed s)
 unfolding readiness isNone
-ready-indexed s confirmed w = cond-elim (λ (r : WithholdReason). T (isNone r) → T (indexed s)) (not (indexed s)) reason.IndexUnavailable _ (λ t h. absurd h) (λ t h. not-not (indexed s) t)
+ready-indexed c s confirmed w = cond-elim (λ (r : WithholdReason). T (isNone r) → T (indexed s)) (not (indexed s)) reason.IndexUnavailable _ (λ t h. absurd h) (λ t h. not-not (indexed s) t)
 
-decide-well : (s : Settings) (m : Matcher) (w : Window) (k : Reached) (l : Lock) → AtMost trackMost (evidence (s .«hop_ms») w .0) → T (near (endpointOf w .0)) → LockBounds l → Sound s m w → DecisionWell (decide s m w k l)
+decide-well : (granted : Bool) (c : Configuration) (s : Settings) (m : Matcher) (w : Window) (k : Reached) (l : Lock) → AtMost trackMost (evidence (s .«hop_ms») w .0) → T (near (endpointOf w .0)) → LockBounds l → Sound s m w → DecisionWell (decide granted c s m w k l)
 unfolding decide
-decide-well s m w k l N n b sound =
-    cond-elim DecisionWell (isNone (readiness s (k .confirmed) w)) _ _
+decide-well granted c s m w k l N n b sound =
+    cond-elim DecisionWell (isNone (readiness c s (k .confirmed) w)) _ _
     (λ t.
-    let x = ready-indexed s (k .confirmed) w t in
-    let y = searched-well m (s .«hop_ms») w N n k l b (sound .whole x) (sound .near x) in
+    let x = ready-indexed c s (k .confirmed) w t in
+    let y = searched-well m (s .«hop_ms») w N n granted k l b (sound .whole x) (sound .near x) in
     record { lock = y .lock; few = y .few; offset = verdict-offset _ (evidence (s .«hop_ms») w) _ (y .lock .accepted) (y .lock) })
     (λ t. record { lock = record { pending = none; accepted = none; time = b .time }; few = lit≤ tt; offset = none })
 
@@ -275,11 +279,11 @@ estimate-room : T (le (farthestMs ⊕ placeMost) trackMost)
 unfolding le lt eq add sum round units size span climb ofBits ofFields odd trailingZeros
 estimate-room = tt
 
-estimate-valid : (w : Window) → AtMost farthestMs (endpointOf w .0) → (o : Maybe) → Offset o → T (validEstimate (estimateAt w o))
+estimate-valid : (t : RecordedMs) → AtMost farthestMs (t .0) → (o : Maybe) → Offset o → T (validEstimate (estimateAt t o))
 unfolding validEstimate
-estimate-valid w n maybe.Absent none = tt
-estimate-valid w n (maybe.Is o) (shown O) =
-    let end = endpointOf w .0 in
+estimate-valid t n maybe.Absent none = tt
+estimate-valid t n (maybe.Is o) (shown O) =
+    let end = t .0 in
     and-i (trackNumber end) _ (within-T trackMost end (at-most-wider farthestMs trackMost end far-track n))
     (and-i (trackNumber (end ⊕ o)) (trackNumber o)
     (within-T trackMost (end ⊕ o) (at-most-wider (farthestMs ⊕ placeMost) trackMost (end ⊕ o) estimate-room (add-at-most binary64 end o farthestMs placeMost farthest-finite tt n O)))
@@ -305,41 +309,38 @@ stamp-valid m k clock h c =
     let confirmed = and-l (validMilestone (m .«confirmed_ms»)) (validMilestone (m .«final_ms»)) rest in
     let final = and-r (validMilestone (m .«confirmed_ms»)) (validMilestone (m .«final_ms»)) rest in
     and-i (validMilestone (stampedOnce (k .provisional) (m .«first_provisional_ms») clock)) _ (stamped-once (k .provisional) (m .«first_provisional_ms») clock first c)
-    (and-i (validMilestone (stampedWithFinal (k .final) (m .«final_ms») (m .«confirmed_ms») clock)) (validMilestone (stampedOnce (k .final) (m .«final_ms») clock))
-    (stamped-with-final (k .final) (m .«final_ms») (m .«confirmed_ms») clock confirmed c) (stamped-once (k .final) (m .«final_ms») clock final c))
+    (and-i (validMilestone (stampedWithFinal (k .«final_lock») (m .«final_ms») (m .«confirmed_ms») clock)) (validMilestone (stampedOnce (k .«final_lock») (m .«final_ms») clock))
+    (stamped-with-final (k .«final_lock») (m .«final_ms») (m .«confirmed_ms») clock confirmed c) (stamped-once (k .«final_lock») (m .«final_ms») clock final c))
 
-computed-safe : (e : Engine) (i : Submission) (d : Decision) → Safe e → T (near (endpointOf (i .window) .0)) → T (finite (i .clock .0)) → DecisionWell d → Safe (computedFrom e i d .engine)
+computed-safe : (e : Engine) (w : Window) (clock : ClockMs) (d : Decision) → Safe e → T (near (endpointOf w .0)) → T (finite (clock .0)) → DecisionWell d → Safe (computedFrom e w clock d .engine)
 unfolding computedFrom publish
-computed-safe e i d k n c y = record {
+computed-safe e w clock d k n c y = record {
+  configuration = k .configuration;
   settings = k .settings;
   lock = y .lock;
-  milestones = stamp-valid (e .milestones) (d .reached) (i .clock) (k .milestones) c;
+  milestones = stamp-valid (e .milestones) (d .reached) clock (k .milestones) c;
   last =
       unfold validLast validSnapshot validEndpoint in
-      and-i (near (endpointOf (i .window) .0)) _ n
+      and-i (near (endpointOf w .0)) _ n
       (and-i (leb (length (d .found)) candidatesMost) _ (le→leb (length (d .found)) candidatesMost (y .few))
-      (and-i (validEstimate (estimateAt (i .window) (d .verdict .offset))) _ (estimate-valid (i .window) (bounded farthestMs _ (T-is _ n)) (d .verdict .offset) (y .offset))
-      (stamp-valid (e .milestones) (d .reached) (i .clock) (k .milestones) c)));
+      (and-i (validEstimate (estimateAt (endpointOf w) (d .verdict .offset))) _ (estimate-valid (endpointOf w) (bounded farthestMs _ (T-is _ n)) (d .verdict .offset) (y .offset))
+      (stamp-valid (e .milestones) (d .reached) clock (k .milestones) c)));
 }
 
 -- ---- one step
 hop-valid : (s : Settings) → validSettings s ≡ true → hopInRange (s .«hop_ms») ≡ true
 unfolding validSettings
-hop-valid s h = T-is _ (and-l (hopInRange (s .«hop_ms»)) _ (and-r (validConfiguration (s .configuration)) _ (subst T (sym h) tt)))
+hop-valid s h = T-is _ (and-l (hopInRange (s .«hop_ms»)) _ (subst T (sym h) tt))
 
 -- What a jump leaves is safe too.
 lock-from : (e : Engine) (w : Window) → Safe e → LockBounds (lockFrom e w)
 lock-from e w k = cond-elim LockBounds (jumps (e .settings) (e .last .«endpoint_ms») w) noLock (e .lock) (λ t. no-lock) (λ t. k .lock)
 
 pub safe-next : (s : Settings) (m : Matcher) (e : Engine) (i : Submission) → Safe e → e .settings ≡ s → Sound s m (i .window) → near (endpointOf (i .window) .0) ≡ true → T (finite (i .clock .0))
-    → let d = decide s m (i .window) (reachedBy (e .milestones)) (lockFrom e (i .window)) in Safe (computedFrom e i d .engine)
+    → let d = decide true (e .configuration) s m (i .window) (reachedBy (e .milestones)) (lockFrom e (i .window)) in Safe (computedFrom e (i .window) (i .clock) d .engine)
 safe-next s m e i k q sound n c =
     let w = i .window in
     let hop = hop-valid s (subst (λ (x : Settings). validSettings x ≡ true) q (k .settings)) in
     let N = bounded trackMost (evidence (s .«hop_ms») w .0) (evidence-bound (s .«hop_ms») w hop n .1) in
     let t : T (near (endpointOf w .0)) = subst T (sym n) tt in
-    computed-safe e i _ k t c (decide-well s m w (reachedBy (e .milestones)) (lockFrom e w) N t (lock-from e w k) sound)
-
-pub valid-next : (s : Settings) (m : Matcher) (e : Engine) (i : Submission) → Safe e → e .settings ≡ s → Sound s m (i .window) → near (endpointOf (i .window) .0) ≡ true → T (finite (i .clock .0))
-    → let d = decide s m (i .window) (reachedBy (e .milestones)) (lockFrom e (i .window)) in validEngine (computedFrom e i d .engine) ≡ true
-valid-next s m e i k q sound n c = safe-valid _ (safe-next s m e i k q sound n c)
+    computed-safe e w (i .clock) _ k t c (decide-well true (e .configuration) s m w (reachedBy (e .milestones)) (lockFrom e w) N t (lock-from e w k) sound)

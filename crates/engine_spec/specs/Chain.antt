@@ -1,33 +1,26 @@
--- Document 01, "The chain": passing, interruption, jump, evidence, chain and coast, read from windows and computed answers only. Nothing here reads the engine's state. Definitions only.
+-- Document 01, "The chain": passing, interruption, jump, evidence, chain and coast, and the place shown, read from windows and computed answers only. Nothing here reads the engine's state. Definitions only.
 use Prim.Native.Nat.{ℕ, zero, suc, _≤_, _<_}
-use mathlib.Core.Bool.{Bool, true, false, cond, not, _&&_, _||_}
+use mathlib.Core.Bool.{Bool, false, cond, not, _&&_, _||_}
+use mathlib.Core.Logic.{_⊎_}
 use mathlib.Core.Path.{_≡_}
 use lib.Dec.{T, ltb}
 use lib.ListN.{getD}
 use lib.Ieee.{Float, le}
 use Rattle.numbers_spec.specs.Arithmetic.{_⊖_, zero⁺}
 use Rattle.engine_spec.specs.Thresholds.{coastMostMs, passingCorrelation, passingMargin, passingHalf, chainMs, chainRecent}
-use Rattle.engine_spec.specs.Windows.{Window, evidence, endpointOf, jumpsFrom, _after_}
-use Rattle.engine_spec.specs.Refusals.{Submission}
+use Rattle.engine_spec.specs.Cases.{isNone, interrupting}
+use Rattle.engine_spec.specs.Windows.{Window, evidence, endpointOf, jumpsFrom, _after_, samePlace, current}
 use Rattle.engine_spec.specs.Opening.{blankCandidate}
-use Rattle.engine_spec.specs.Readiness.{isNone}
-use Rattle.engine_spec.specs.Tracking.{samePlace}
-use Rattle.engine_spec.specs.Locking.{current}
+use Rattle.engine_spec.specs.Lists.{Answered}
 use Rattle.engine_spec.specs.declared.types.RecordedMs.{RecordedMs}
 use Rattle.engine_spec.specs.declared.types.SpectralDiagnostics.{SpectralDiagnostics}
 use Rattle.engine_spec.specs.declared.types.Diagnostics.{Diagnostics}
 use Rattle.engine_spec.specs.declared.types.Snapshot.{Snapshot}
-use Rattle.engine_spec.specs.declared.types.Answer.{Answer}
 use Rattle.engine_spec.specs.declared.types.Maybe.{Maybe}
 use Rattle.engine_spec.specs.declared.types.Maybe.the-variants as maybe
-use Rattle.engine_spec.specs.declared.types.State.{State}
+use Rattle.engine_spec.specs.declared.types.Estimate.{Estimate}
+use Rattle.engine_spec.specs.declared.types.Estimate.the-variants as estimate
 use Rattle.engine_spec.specs.declared.types.State.the-variants as state
-
--- A submission as it was handed in, and what was answered.
-pub record Answered : Type 0 where
-  pub submission : Submission
-  pub answer : Answer
-  pub snapshot : Snapshot
 
 -- ---- what one snapshot shows
 -- A margin of 0.06 or more.
@@ -43,21 +36,14 @@ passes s =
     && (le passingCorrelation (x .correlation)
     && (clear (x .«competing_peak_margin») && (le passingHalf (x .«first_half_correlation») && le passingHalf (x .«second_half_correlation»))))
 
--- The states that interrupt: Listening, Lost and Failed.
-unfoldable pub interrupting : State → Bool
-interrupting state.Ready = false
-interrupting state.Listening = true
-interrupting state.Locking = false
-interrupting state.Confirmed = false
-interrupting state.Locked = false
-interrupting state.Drifting = false
-interrupting state.Relocking = false
-interrupting state.Lost = true
-interrupting state.Failed = true
-
 -- The best candidate's offset, if the search found one.
 unfoldable pub bestOffset : Diagnostics → Maybe
 bestOffset d = cond (ltb 0 (d .«candidate_count»)) (maybe.Is (getD (d .candidates) 0 blankCandidate .«offset_ms»)) maybe.Absent
+
+-- The place shown: the estimate's offset, if there is one.
+abbrev pub offsetShown : Estimate → Maybe
+offsetShown estimate.Absent = maybe.Absent
+offsetShown (estimate.At recorded reference offset) = maybe.Is offset
 
 -- Both are there, and at most 80 apart.
 abbrev pub bothNear : Maybe → Maybe → Bool
@@ -152,3 +138,31 @@ module _ (hop : Float) (a : ℕ → Answered) where
     pub is : spectralAt i .«coast_ms» ≡ when i after when from
     pub least : T (le zero⁺ (spectralAt i .«coast_ms»))
     pub greatest : T (le (spectralAt i .«coast_ms») coastMostMs)
+
+  -- ---- the place shown
+  abbrev pub placeAt : ℕ → Maybe
+  placeAt i = offsetShown (shownAt i .estimate)
+
+  -- What an answer shows that ends a chain: Locked, no withhold reason, coast 0, and a place at most 80 from the best offset.
+  pub record Ending (i : ℕ) : Type 0 where
+    pub locked : shownAt i .state ≡ state.Locked
+    pub supported : T (isNone (shownAt i .«withhold_reason»))
+    pub coast : spectralAt i .«coast_ms» ≡ zero⁺
+    pub place : T (bothNear (placeAt i) (bestOffset (shownAt i .diagnostics)))
+
+  -- The place is that of the answer before, which is Locked too.
+  pub record Coasting (i : ℕ) : Type 0 where
+    pub before : ℕ
+    pub is : i ≡ suc before
+    pub locked : shownAt before .state ≡ state.Locked
+    pub place : placeAt i ≡ placeAt before
+
+  -- Locking, at the best offset of the last passing answer up to it, itself counted.
+  pub record LockingAt (i : ℕ) : Type 0 where
+    pub locking : shownAt i .state ≡ state.Locking
+    pub newest : ℕ
+    pub latest : Latest newest (suc i)
+    pub place : placeAt i ≡ bestOffset (shownAt newest .diagnostics)
+
+  abbrev pub Placed : ℕ → Type 0
+  Placed i = (shownAt i .state ≡ state.Locked) ⊎ LockingAt i

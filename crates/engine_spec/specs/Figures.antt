@@ -8,8 +8,8 @@ use Rattle.numbers_spec.specs.Arithmetic.{_⊖_, zero⁺}
 use Rattle.numbers_spec.specs.Figures.{P7, P8, P9, P10}
 use Rattle.matcher_spec.specs.Centring.{radius}
 use Rattle.matcher_spec.specs.Figures.{twenty, P3, P5, P11, P12}
-use Rattle.engine_spec.specs.Windows.{Window, start, endpointOf, evidence, acceptsTimeline, jumpsFrom}
-use Rattle.engine_spec.specs.Refusals.{Submission, refuses, submissionRefusal}
+use Rattle.engine_spec.specs.Windows.{Window, Submission, start, endpointOf, evidence, acceptsTimeline, jumpsFrom}
+use Rattle.engine_spec.specs.Refusals.{refuses, submissionRefusal}
 use Rattle.engine_spec.specs.Submitting.{submit}
 use Rattle.engine_spec.specs.declared.types.RecordedMs.{RecordedMs}
 use Rattle.engine_spec.specs.declared.types.Engine.{Engine}

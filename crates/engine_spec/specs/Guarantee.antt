@@ -1,6 +1,6 @@
 -- The lock guarantee (docs/GUARANTEE.md), of every list of submissions to a fresh engine. Its terms stand in specs/Chain.antt. Definitions only.
 use Prim.Native.Nat.{ℕ, _≤_, _<_}
-use mathlib.Core.Bool.{Bool, true, false, cond}
+use mathlib.Core.Bool.{false, cond, not}
 use mathlib.Core.List.{List, [], _∷_, _++_}
 use mathlib.Core.Path.{_≡_}
 use lib.Dec.{T}
@@ -13,63 +13,27 @@ use Rattle.matcher_spec.specs.declared.types.Candidate.{Candidate}
 use Rattle.matcher_spec.specs.Index.{Index, Matcher}
 use Rattle.matcher_spec.specs.Search.{wholeSearch}
 use Rattle.numbers_spec.specs.Rows.{Every, F32}
-use Rattle.engine_spec.specs.Windows.{Window, indexed, query, endpointOf, rereads}
+use Rattle.engine_spec.specs.Cases.{isNone, isThere, estimated, isComputed}
+use Rattle.engine_spec.specs.Windows.{Window, Submission, indexed, query, endpointOf, rereads}
 use Rattle.matcher_spec.specs.Features.{Features}
-use Rattle.engine_spec.specs.Refusals.{Submission, refuses, indexFits, handedRefusal}
-use Rattle.engine_spec.specs.Opening.{blankCandidate, blankSnapshot, opening, openedSettings, matcherOfReference}
-use Rattle.engine_spec.specs.Publishing.{ofBest, ambiguous, candidateArray}
-use Rattle.engine_spec.specs.Submitting.{submit, isThere}
-use Rattle.engine_spec.specs.Chain.{Answered, shownAt, windowAt, wholeAt, EndsChain, OnChain, Coasts}
+use Rattle.engine_spec.specs.Refusals.{refuses, indexFits, handedRefusal}
+use Rattle.engine_spec.specs.Opening.{blankCandidate, opening, openedSettings, matcherOfReference}
+use Rattle.engine_spec.specs.Publishing.{ofBest, ambiguous, comparableFrames, coverage, candidateArray}
+use Rattle.engine_spec.specs.Lists.{Answered, answersTo, remaining, unanswered}
+use Rattle.engine_spec.specs.Chain.{shownAt, windowAt, wholeAt, EndsChain, OnChain, Coasts, Ending, Coasting, Placed}
 use Rattle.engine_spec.specs.declared.types.ClockMs.{ClockMs}
 use Rattle.engine_spec.specs.declared.types.Configuration.{Configuration}
 use Rattle.engine_spec.specs.declared.types.Settings.{Settings}
-use Rattle.engine_spec.specs.declared.types.Milestones.{Milestones}
 use Rattle.engine_spec.specs.declared.types.Snapshot.{Snapshot}
 use Rattle.engine_spec.specs.declared.types.Engine.{Engine}
 use Rattle.engine_spec.specs.declared.types.Milestone.{Milestone}
 use Rattle.engine_spec.specs.declared.types.Milestone.the-variants as milestone
 use Rattle.engine_spec.specs.declared.types.Endpoint.{Endpoint}
 use Rattle.engine_spec.specs.declared.types.Endpoint.the-variants as endpoint
-use Rattle.engine_spec.specs.declared.types.Estimate.{Estimate}
-use Rattle.engine_spec.specs.declared.types.Estimate.the-variants as estimate
 use Rattle.engine_spec.specs.declared.types.Maybe.the-variants as maybe
 use Rattle.engine_spec.specs.declared.types.State.the-variants as state
 use Rattle.engine_spec.specs.declared.types.Answer.{Answer}
 use Rattle.engine_spec.specs.declared.types.Answer.the-variants as answer
-
--- ---- a list of submissions
--- Each gets the state that the one before it gave back or left in place.
-unfoldable pub answersTo : Engine → List Submission → List Answered
-answersTo e [] = []
-answersTo e (i ∷ l) = record { submission = i; answer = submit e i .answer; snapshot = submit e i .snapshot } ∷ answersTo (submit e i .engine) l
-
-unfoldable pub engineAfter : Engine → List Submission → Engine
-engineAfter e [] = e
-engineAfter e (i ∷ l) = engineAfter (submit e i .engine) l
-
--- A computed answer: not a refusal and not a re-reading.
-unfoldable pub isComputed : Answer → Bool
-isComputed answer.Opened = false
-isComputed answer.Computed = true
-isComputed answer.Reread = false
-isComputed answer.InvalidConfiguration = false
-isComputed answer.HopOutOfRange = false
-isComputed answer.ReferenceTooLarge = false
-isComputed answer.ReferenceMiscounted = false
-isComputed answer.ReferenceTimeTooFar = false
-isComputed answer.IndexTooShort = false
-isComputed answer.StateOutOfRange = false
-isComputed answer.ClockNotFinite = false
-isComputed answer.NoFrames = false
-isComputed answer.WindowTooLarge = false
-isComputed answer.WindowInvalid = false
-isComputed answer.WindowTimeOutOfRange = false
-isComputed answer.WorkTooShort = false
-
--- The remaining answers: the refused ones and the re-readings struck out.
-unfoldable pub remaining : List Answered → List Answered
-remaining [] = []
-remaining (a ∷ l) = cond (isComputed (a .answer)) (a ∷ remaining l) (remaining l)
 
 -- ---- what is asked of the list: index untouched
 -- The four buffers begin with what opening filled in; their tails may be any.
@@ -99,7 +63,7 @@ answers (a ∷ l) = a .answer ∷ answers l
 
 -- What is answered after a last computed window with this endpoint.
 unfoldable pub answerTo : Settings → Endpoint → Submission → Answer
-answerTo s last i = cond (refuses (handedRefusal s i)) (handedRefusal s i) (cond (rereads s last (i .window)) answer.Reread answer.Computed)
+answerTo s last i = cond (refuses (handedRefusal s i)) (answer.Refused (handedRefusal s i)) (cond (rereads s last (i .window)) answer.Reread answer.Computed)
 
 unfoldable pub toldBy : Settings → Endpoint → List Submission → List Answer
 toldBy s last [] = []
@@ -123,9 +87,6 @@ abbrev pub unread : Milestone → Milestone
 unread milestone.Absent = milestone.Absent
 unread (milestone.At t) = milestone.At (record { 0 = zero⁺ })
 
-abbrev pub unreadAll : Milestones → Milestones
-unreadAll m = record { «first_provisional_ms» = unread (m .«first_provisional_ms»); «confirmed_ms» = unread (m .«confirmed_ms»); «final_ms» = unread (m .«final_ms») }
-
 -- A snapshot in every field but the readings that milestones carry.
 abbrev pub withoutReadings : Snapshot → Snapshot
 withoutReadings s = record {
@@ -136,7 +97,9 @@ withoutReadings s = record {
   «withhold_reason» = s .«withhold_reason»;
   confidence = s .confidence;
   diagnostics = s .diagnostics;
-  milestones = unreadAll (s .milestones);
+  «first_provisional_lock_elapsed_ms» = unread (s .«first_provisional_lock_elapsed_ms»);
+  «confirmed_lock_elapsed_ms» = unread (s .«confirmed_lock_elapsed_ms»);
+  «final_lock_elapsed_ms» = unread (s .«final_lock_elapsed_ms»);
 }
 
 pub record Bare : Type 0 where
@@ -153,14 +116,10 @@ pub record _⇔_ (A B : Type 0) : Type 0 where
   pub from : B → A
 
 infix 4 _⇔_
-abbrev pub estimated : Estimate → Bool
-estimated estimate.Absent = false
-estimated (estimate.At recorded reference offset) = true
-
 -- All that a snapshot shows of its search is of the candidates found.
 pub record Shows (hop : Float) (w : Window) (found : List Candidate) (s : Snapshot) : Type 0 where
   pub count : s .diagnostics .«candidate_count» ≡ length found
-  pub candidates : s .diagnostics .candidates ≡ candidateArray hop w found
+  pub candidates : s .diagnostics .candidates ≡ candidateArray (comparableFrames hop w) (coverage w) found
   pub correlation : s .diagnostics .spectral .correlation ≡ ofBest (λ (c : Candidate). c .score) found
   pub margin : s .diagnostics .spectral .«competing_peak_margin» ≡ maybe.Is (marginOf found)
   pub first-half : s .diagnostics .spectral .«first_half_correlation» ≡ ofBest (λ (c : Candidate). c .«first_half_score») found
@@ -176,11 +135,11 @@ pub record Apart (s : Snapshot) (j k : ℕ) : Type 0 where
 
 module _ (hop : Float) (m : Matcher) (a : ℕ → Answered) where
   abbrev pub finalAt : ℕ → Milestone
-  finalAt i = shownAt hop a i .milestones .«final_ms»
+  finalAt i = shownAt hop a i .«final_lock_elapsed_ms»
 
   pub record Trusted (i : ℕ) : Type 0 where
     -- confirmed equals final
-    pub same : shownAt hop a i .milestones .«confirmed_ms» ≡ finalAt i
+    pub same : shownAt hop a i .«confirmed_lock_elapsed_ms» ≡ finalAt i
     -- final is there exactly when this answer or an earlier one ends a chain
     pub there : T (isThere (finalAt i)) ⇔ ((j : ℕ) × (j ≤ i) × EndsChain hop a j)
     -- once there it never changes
@@ -196,33 +155,19 @@ module _ (hop : Float) (m : Matcher) (a : ℕ → Answered) where
     pub apart : T (wholeAt hop a i) → (j k : ℕ) → j < k → k < shownAt hop a i .diagnostics .«candidate_count» → Apart (shownAt hop a i) j k
 
 -- ---- the guarantee
--- What stands behind the end of a list; no clause reads it.
-abbrev pub unanswered : Answered
-unanswered = record {
-  submission = record {
-    index = record { fine = []; coarse = []; fineEnergy = []; coarseEnergy = [] };
-    window = record { bands = 0; times = []; energies = []; values = [] };
-    clock = record { 0 = zero⁺ };
-    room32 = 0;
-    room64 = 0;
-  };
-  answer = answer.Opened;
-  snapshot = blankSnapshot;
-}
-
--- What is promised of the list as a whole.
-pub record Promised (e : Engine) (m : Matcher) (l : List Submission) : Type 0 where
+-- What is promised of the list as a whole, by the hop that opening was given.
+pub record Promised (hop : Float) (e : Engine) (m : Matcher) (l : List Submission) : Type 0 where
   -- which are refused, re-read or computed follows from windows, clocks and buffers alone; none is refused with 7
   pub told : answers (answersTo e l) ≡ toldBy (e .settings) endpoint.Absent l
   -- the remaining submissions, under any finite clocks, are again all computed, with equal snapshots in all but the readings
   pub struck : (cs : List ClockMs) → length cs ≡ length (remaining (answersTo e l)) → AllFinite cs →
       bares (answersTo e (under cs (remaining (answersTo e l)))) ≡ bares (remaining (answersTo e l))
   -- and each remaining answer can be trusted
-  pub trusted : (i : ℕ) → i < length (remaining (answersTo e l)) → Trusted (e .settings .«hop_ms») m (λ (k : ℕ). getD (remaining (answersTo e l)) k unanswered) i
+  pub trusted : (i : ℕ) → i < length (remaining (answersTo e l)) → Trusted hop m (λ (k : ℕ). getD (remaining (answersTo e l)) k unanswered) i
 
 -- For every opening that is answered, with or without index, and every list of submissions.
 abbrev pub Guarantee : Type 0
 Guarantee =
     (c : Configuration) (hop : Float) (reference : Features) (x : Index) → Every F32 (reference .values) → opening c hop reference x .answer ≡ answer.Opened
-    → (l : List Submission) → AllHanded (openedSettings c hop reference) (matcherOfReference hop reference) l
-    → Promised (opening c hop reference x .engine) (matcherOfReference hop reference) l
+    → (l : List Submission) → AllHanded (openedSettings hop reference) (matcherOfReference hop reference) l
+    → Promised hop (opening c hop reference x .engine) (matcherOfReference hop reference) l

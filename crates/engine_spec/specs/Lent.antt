@@ -3,8 +3,7 @@ use Prim.Native.Nat.{ℕ}
 use mathlib.Core.List.{List}
 use lib.Ieee.{Float}
 use Rattle.matcher_spec.specs.Index.{Index}
-use Rattle.engine_spec.specs.Windows.{Window}
-use Rattle.engine_spec.specs.Refusals.{Submission}
+use Rattle.engine_spec.specs.Windows.{Window, Submission}
 use Rattle.engine_spec.specs.declared.types.ClockMs.{ClockMs}
 
 abbrev pub window : ℕ → List Float → List Float → List Float → Window

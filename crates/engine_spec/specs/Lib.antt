@@ -1,4 +1,6 @@
 pub mod Thresholds
+pub mod Cases
+pub mod Milestones
 pub mod Windows
 pub mod Refusals
 pub mod Opening
@@ -8,6 +10,7 @@ pub mod Locking
 pub mod Publishing
 pub mod Submitting
 pub mod SupportAge
+pub mod Lists
 pub mod Chain
 pub mod Guarantee
 pub mod Guaranteed

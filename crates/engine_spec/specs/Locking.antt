@@ -1,4 +1,4 @@
--- The lock rules: whole searches, pending, the end of a chain, and which milestones are there (engine.rs, `process`). No clock stands among them. Definitions only.
+-- The lock rules: whole searches, pending, and the end of a chain (engine.rs, `process`). No clock stands among them. Definitions only.
 use mathlib.Core.Bool.{Bool, true, false, cond, not, _&&_, _||_}
 use mathlib.Core.List.{List, [], _∷_}
 use lib.Ieee.{Float, le, lt}
@@ -7,25 +7,21 @@ use Rattle.matcher_spec.specs.Index.{Matcher}
 use Rattle.matcher_spec.specs.Search.{wholeSearch}
 use Rattle.matcher_spec.specs.Candidates.{marginOf}
 use Rattle.matcher_spec.specs.declared.types.Candidate.{Candidate}
-use Rattle.engine_spec.specs.Thresholds.{samePlaceMs, supportedIntervalMs, searchIntervalMs, passingCorrelation, passingMargin, passingHalf, staleMs, chainMs, chainRecent}
-use Rattle.engine_spec.specs.Windows.{Window, query, endpointOf, evidence, _after_}
-use Rattle.engine_spec.specs.Tracking.{samePlace, Tracked, tracked}
+use Rattle.engine_spec.specs.Thresholds.{samePlaceMs, supportedIntervalMs, searchIntervalMs, passingCorrelation, passingMargin, passingHalf, chainMs, chainRecent}
+use Rattle.engine_spec.specs.Windows.{Window, query, endpointOf, evidence, _after_, samePlace, current}
+use Rattle.engine_spec.specs.Tracking.{Tracked, tracked}
+use Rattle.engine_spec.specs.Milestones.{afterPassing, afterChain}
 use Rattle.engine_spec.specs.declared.types.RecordedMs.{RecordedMs}
+use Rattle.engine_spec.specs.declared.types.Reached.{Reached}
 use Rattle.engine_spec.specs.declared.types.Lock.{Lock}
 use Rattle.engine_spec.specs.declared.types.Maybe.{Maybe}
 use Rattle.engine_spec.specs.declared.types.Hypothesis.{Hypothesis}
 use Rattle.engine_spec.specs.declared.types.Hypothesis.the-variants as hypothesis
 
--- Which milestones are there: all that a decision knows of them.
-pub record Reached : Type 0 where
-  pub provisional : Bool
-  pub confirmed : Bool
-  pub final : Bool
-
 -- ---- a whole search
 -- Due 500 after the last one, or 2,000 where the window supports the track.
-abbrev pub wholeDue : Bool → RecordedMs → RecordedMs → Bool
-wholeDue supported now last = le (cond supported supportedIntervalMs searchIntervalMs) (now after last)
+abbrev pub isDue : Bool → RecordedMs → RecordedMs → Bool
+isDue supported endpoint last = le (cond supported supportedIntervalMs searchIntervalMs) (endpoint after last)
 
 -- It passes by its best candidate's correlation and halves, and by its margin.
 unfoldable pub passing : List Candidate → Bool
@@ -35,10 +31,6 @@ passing (best ∷ rest) =
     && (le passingMargin (marginOf (best ∷ rest)) && le passingHalf (least (best .«first_half_score») (best .«second_half_score»)))
 
 -- ---- pending
--- Evidence that is not stale.
-abbrev pub current : RecordedMs → RecordedMs → Bool
-current now last = le (now after last) staleMs
-
 -- A passing search carries pending on, with its first evidence, where that is current and at the same place. Otherwise it starts anew.
 unfoldable pub firstEvidence : Hypothesis → Float → RecordedMs → RecordedMs
 firstEvidence hypothesis.Absent offset now = now
@@ -62,13 +54,6 @@ heldOrDropped (hypothesis.Held offset first last correlation) found now = cond (
 unfoldable pub confirms : Float → RecordedMs → RecordedMs → Candidate → Bool
 confirms hop first now best = le (chainMs ⊖ hop) (now after first) && le chainRecent (best .«recent_score»)
 
--- The first passing search brings the first milestone; the first end of a chain brings confirmed and final.
-abbrev pub afterPassing : Reached → Reached
-afterPassing k = record { provisional = true; confirmed = k .confirmed; final = k .final }
-
-abbrev pub afterChain : Reached → Reached
-afterChain k = record { provisional = true; confirmed = cond (k .final) (k .confirmed) true; final = true }
-
 -- A track at the end of a chain: kept where the window supports it at the chain's place, else begun there.
 unfoldable pub keptOrReplaced : Hypothesis → Bool → Candidate → RecordedMs → Hypothesis
 keptOrReplaced hypothesis.Absent supported best now = hypothesis.Held (best .«offset_ms») now now (best .score)
@@ -90,14 +75,13 @@ pub record Searched : Type 0 where
 abbrev pub lockOf : Hypothesis → Hypothesis → RecordedMs → Lock
 lockOf pending accepted last = record { pending = pending; accepted = accepted; «last_global_search_ms» = last }
 
--- After a passing whole search, whose pending has this first evidence.
-unfoldable pub passed : Float → Window → Reached → RecordedMs → Tracked → Candidate → List Candidate → Searched
-passed hop w k first t best rest =
-    let now = evidence hop w in
+-- After a passing whole search of a window with this evidence time and endpoint; its pending has this first evidence.
+unfoldable pub passed : Float → RecordedMs → RecordedMs → Reached → RecordedMs → Tracked → Candidate → List Candidate → Searched
+passed hop now endpoint k first t best rest =
     let pending = hypothesis.Held (best .«offset_ms») first now (best .score) in
     cond (confirms hop first now best)
     (record {
-      lock = lockOf pending (keptOrReplaced (t .accepted) (t .supported) best now) (endpointOf w);
+      lock = lockOf pending (keptOrReplaced (t .accepted) (t .supported) best now) endpoint;
       reached = afterChain k;
       global = true;
       found = best ∷ rest;
@@ -105,7 +89,7 @@ passed hop w k first t best rest =
       innovation = t .innovation;
     })
     (record {
-      lock = lockOf pending (t .accepted) (endpointOf w);
+      lock = lockOf pending (t .accepted) endpoint;
       reached = afterPassing k;
       global = true;
       found = best ∷ rest;
@@ -114,9 +98,9 @@ passed hop w k first t best rest =
     })
 
 -- After one that doesn't pass.
-abbrev pub notPassed : Float → Window → Reached → Hypothesis → Tracked → List Candidate → Searched
-notPassed hop w k pending t found = record {
-  lock = lockOf (heldOrDropped pending found (evidence hop w)) (t .accepted) (endpointOf w);
+abbrev pub notPassed : RecordedMs → RecordedMs → Reached → Hypothesis → Tracked → List Candidate → Searched
+notPassed now endpoint k pending t found = record {
+  lock = lockOf (heldOrDropped pending found now) (t .accepted) endpoint;
   reached = k;
   global = true;
   found = found;
@@ -125,12 +109,12 @@ notPassed hop w k pending t found = record {
 }
 
 -- After a whole search that found these.
-unfoldable pub wholeSearched : Float → Window → Reached → Hypothesis → Tracked → List Candidate → Searched
-wholeSearched hop w k pending t [] = notPassed hop w k pending t []
-wholeSearched hop w k pending t (best ∷ rest) =
+unfoldable pub wholeSearched : Float → RecordedMs → RecordedMs → Reached → Hypothesis → Tracked → List Candidate → Searched
+wholeSearched hop now endpoint k pending t [] = notPassed now endpoint k pending t []
+wholeSearched hop now endpoint k pending t (best ∷ rest) =
     cond (passing (best ∷ rest))
-    (passed hop w k (firstEvidence pending (best .«offset_ms») (evidence hop w)) t best rest)
-    (notPassed hop w k pending t (best ∷ rest))
+    (passed hop now endpoint k (firstEvidence pending (best .«offset_ms») now) t best rest)
+    (notPassed now endpoint k pending t (best ∷ rest))
 
 -- Without a whole search: pending and search time stay.
 abbrev pub locallySearched : Reached → Lock → Tracked → Searched
@@ -143,10 +127,15 @@ locallySearched k l t = record {
   innovation = t .innovation;
 }
 
--- A local search for the track, if there is one, then a whole search, if one is due.
-unfoldable pub searched : Matcher → Float → Window → Reached → Lock → Searched
-searched m hop w k l =
-    let t = tracked m hop w (l .accepted) in
-    cond (wholeDue (t .supported) (endpointOf w) (l .«last_global_search_ms»))
-    (wholeSearched hop w k (l .pending) t (wholeSearch m (query w)))
+-- After a local search that left this track: with a whole search, or without.
+abbrev pub searchedIf : Bool → Matcher → Float → Window → Reached → Lock → Tracked → Searched
+searchedIf whole m hop w k l t =
+    cond whole
+    (wholeSearched hop (evidence hop w) (endpointOf w) k (l .pending) t (wholeSearch m (query w)))
     (locallySearched k l t)
+
+-- A local search for the track, if there is one, then a whole search, if one is granted and due.
+unfoldable pub searched : Bool → Matcher → Float → Window → Reached → Lock → Searched
+searched granted m hop w k l =
+    let t = tracked m (query w) (evidence hop w) (l .accepted) in
+    searchedIf (granted && isDue (t .supported) (endpointOf w) (l .«last_global_search_ms»)) m hop w k l t

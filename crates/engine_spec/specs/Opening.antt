@@ -5,11 +5,11 @@ use lib.Ieee.{Float, nan, inf, binary64, ofBits}
 use Rattle.numbers_spec.specs.Arithmetic.{zero⁺}
 use Rattle.matcher_spec.specs.Index.{Index, Matcher, acceptsReference, matcherOf, filled}
 use Rattle.matcher_spec.specs.Features.{Features}
+use Rattle.engine_spec.specs.Milestones.{noMilestones}
 use Rattle.engine_spec.specs.Refusals.{refuses, openingRefusal}
 use Rattle.engine_spec.specs.declared.types.Configuration.{Configuration}
 use Rattle.engine_spec.specs.declared.types.Settings.{Settings}
 use Rattle.engine_spec.specs.declared.types.Lock.{Lock}
-use Rattle.engine_spec.specs.declared.types.Milestones.{Milestones}
 use Rattle.engine_spec.specs.declared.types.CandidateDiagnostics.{CandidateDiagnostics}
 use Rattle.engine_spec.specs.declared.types.Snapshot.{Snapshot}
 use Rattle.engine_spec.specs.declared.types.Engine.{Engine}
@@ -22,6 +22,7 @@ use Rattle.engine_spec.specs.declared.types.Maybe.the-variants as maybe
 use Rattle.engine_spec.specs.declared.types.State.the-variants as state
 use Rattle.engine_spec.specs.declared.types.LockPhase.the-variants as phase
 use Rattle.engine_spec.specs.declared.types.Stage.the-variants as stage
+use Rattle.engine_spec.specs.declared.types.Answer.the-variants as answer
 use Rattle.engine_spec.specs.declared.types.WithholdReason.the-variants as reason
 use Rattle.matcher_spec.specs.Limits.{candidatesMost}
 
@@ -29,9 +30,6 @@ use Rattle.matcher_spec.specs.Limits.{candidatesMost}
 -- No place, and no whole search: also what a jump leaves (document 01).
 abbrev pub noLock : Lock
 noLock = record { pending = hypothesis.Absent; accepted = hypothesis.Absent; «last_global_search_ms» = record { 0 = inf true } }
-
-abbrev pub noMilestones : Milestones
-noMilestones = record { «first_provisional_ms» = milestone.Absent; «confirmed_ms» = milestone.Absent; «final_ms» = milestone.Absent }
 
 -- What stands behind the last candidate of a snapshot.
 abbrev pub blankCandidate : CandidateDiagnostics
@@ -69,7 +67,9 @@ blankSnapshot = record {
       «coast_ms» = zero⁺;
     };
   };
-  milestones = noMilestones;
+  «first_provisional_lock_elapsed_ms» = milestone.Absent;
+  «confirmed_lock_elapsed_ms» = milestone.Absent;
+  «final_lock_elapsed_ms» = milestone.Absent;
 }
 
 -- ---- the configuration that a unit starts with (types.rs, `Configuration::default`): durations of 2,500 and 2,000, energies of -70 and -62, a fraction of 0.35
@@ -84,8 +84,9 @@ defaultConfiguration = record {
 
 -- ---- the engine
 -- A fresh engine: no endpoint, snapshot, place or milestone.
-unfoldable pub freshEngine : Settings → Engine
-freshEngine s = record {
+unfoldable pub freshEngine : Configuration → Settings → Engine
+freshEngine c s = record {
+  configuration = c;
   settings = s;
   lock = noLock;
   milestones = noMilestones;
@@ -93,9 +94,8 @@ freshEngine s = record {
 }
 
 -- With index: the reference's counts and start.
-abbrev pub withIndex : Configuration → Float → Features → Settings
-withIndex c hop reference = record {
-  configuration = c;
+abbrev pub withIndex : Float → Features → Settings
+withIndex hop reference = record {
   «hop_ms» = hop;
   «reference_frames» = length (reference .times);
   «reference_bands» = reference .bands;
@@ -103,21 +103,20 @@ withIndex c hop reference = record {
 }
 
 -- Without: counts and start are 0.
-abbrev pub withoutIndex : Configuration → Float → Settings
-withoutIndex c hop = record { configuration = c; «hop_ms» = hop; «reference_frames» = 0; «reference_bands» = 0; «reference_start_ms» = record { 0 = zero⁺ } }
+abbrev pub withoutIndex : Float → Settings
+withoutIndex hop = record { «hop_ms» = hop; «reference_frames» = 0; «reference_bands» = 0; «reference_start_ms» = record { 0 = zero⁺ } }
 
 -- Whether `SpectralMatcher::new` accepts the reference.
 abbrev pub acceptsFeatures : Float → Features → Bool
 acceptsFeatures hop reference = acceptsReference hop (reference .bands) (reference .times) (reference .values)
 
-abbrev pub openedSettings : Configuration → Float → Features → Settings
-openedSettings c hop reference = cond (acceptsFeatures hop reference) (withIndex c hop reference) (withoutIndex c hop)
+abbrev pub openedSettings : Float → Features → Settings
+openedSettings hop reference = cond (acceptsFeatures hop reference) (withIndex hop reference) (withoutIndex hop)
 
 -- No engine: one with hop 0, which every submission refuses with 7.
 unfoldable pub noEngine : Engine
 noEngine =
     freshEngine
-    (withoutIndex
     (record {
       «minimum_readiness_duration_ms» = zero⁺;
       «tracking_query_duration_ms» = zero⁺;
@@ -125,13 +124,15 @@ noEngine =
       «minimum_average_energy_dbfs» = zero⁺;
       «minimum_active_frame_fraction» = zero⁺;
     })
-    zero⁺)
+    (withoutIndex zero⁺)
 
 -- ---- opening
 unfoldable pub opening : Configuration → Float → Features → Index → OpenResult
 opening c hop reference x =
     let r = openingRefusal c hop reference x in
-    record { answer = r; engine = cond (refuses r) noEngine (freshEngine (openedSettings c hop reference)) }
+    cond (refuses r)
+    (record { answer = answer.Refused r; engine = noEngine })
+    (record { answer = answer.Opened; engine = freshEngine c (openedSettings hop reference) })
 
 -- Whether the index is filled: not where opening is refused, and not where the reference is rejected.
 unfoldable pub fills : Configuration → Float → Features → Index → Bool

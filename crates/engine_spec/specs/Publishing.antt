@@ -12,10 +12,14 @@ use Rattle.matcher_spec.specs.Index.{Matcher}
 use Rattle.engine_spec.specs.Thresholds.{coastMostMs, passingMargin, trimmedMs}
 use Rattle.engine_spec.specs.Windows.{Window, indexed, endpointOf, duration, evidence, _after_}
 use Rattle.engine_spec.specs.Opening.{blankCandidate}
-use Rattle.engine_spec.specs.Readiness.{readiness, isNone, activeFraction}
+use Rattle.engine_spec.specs.Cases.{isNone, isPublishing}
+use Rattle.engine_spec.specs.Readiness.{readiness, activeFraction}
 use Rattle.engine_spec.specs.Tracking.{mayCoast}
-use Rattle.engine_spec.specs.Locking.{Reached, Searched, searched, lockOf}
+use Rattle.engine_spec.specs.Locking.{Searched, searched, lockOf}
 use Rattle.engine_spec.specs.declared.types.RecordedMs.{RecordedMs}
+use Rattle.engine_spec.specs.declared.types.Configuration.{Configuration}
+use Rattle.engine_spec.specs.declared.types.Reached.{Reached}
+use Rattle.engine_spec.specs.declared.types.Verdict.{Verdict}
 use Rattle.engine_spec.specs.declared.types.Settings.{Settings}
 use Rattle.engine_spec.specs.declared.types.Lock.{Lock}
 use Rattle.engine_spec.specs.declared.types.Milestones.{Milestones}
@@ -40,14 +44,6 @@ use Rattle.engine_spec.specs.declared.types.WithholdReason.the-variants 
 use Rattle.matcher_spec.specs.Limits.{candidatesMost}
 
 -- ---- the decision
--- What is said of the place: the state, why nothing supported is shown, the offset shown, how far the local best lay from the track, and the coast.
-pub record Verdict : Type 0 where
-  pub state : State
-  pub reason : WithholdReason
-  pub offset : Maybe
-  pub innovation : Maybe
-  pub coast : Float
-
 -- All that a window decides: the lock and the milestones that are there after it, its search, and what is said of the place.
 pub record Decision : Type 0 where
   pub lock : Lock
@@ -78,7 +74,7 @@ offTrack s = record {
 -- On a track at this offset, whose evidence ended so long ago. From a fresh engine it is never Confirmed.
 abbrev pub onTrack : Searched → Float → Float → Verdict
 onTrack s offset since = record {
-  state = cond (s .reached .final) state.Locked state.Confirmed;
+  state = cond (s .reached .«final_lock») state.Locked state.Confirmed;
   reason = cond (s .supported) reason.None reason.WeakAlignmentPeak;
   offset = maybe.Is offset;
   innovation = s .innovation;
@@ -106,14 +102,16 @@ unready s k l r = record {
   };
 }
 
-abbrev pub ready : Float → Window → Searched → Decision
-ready hop w s = record { lock = s .lock; reached = s .reached; global = s .global; found = s .found; verdict = verdictOf (s .lock .accepted) (evidence hop w) s }
+-- One with this evidence time that was searched.
+abbrev pub ready : RecordedMs → Searched → Decision
+ready now s = record { lock = s .lock; reached = s .reached; global = s .global; found = s .found; verdict = verdictOf (s .lock .accepted) now s }
 
--- The decision. It sees which milestones are there, and no clock.
-unfoldable pub decide : Settings → Matcher → Window → Reached → Lock → Decision
-decide s m w k l =
-    let r = readiness s (k .confirmed) w in
-    cond (isNone r) (ready (s .«hop_ms») w (searched m (s .«hop_ms») w k l)) (unready s k l r)
+-- The decision. It sees which milestones are there, and no clock. A whole search that is due is made where it is granted.
+unfoldable pub decide : Bool → Configuration → Settings → Matcher → Window → Reached → Lock → Decision
+decide granted c s m w k l =
+    let hop = s .«hop_ms» in
+    let r = readiness c s (k .confirmed) w in
+    cond (isNone r) (ready (evidence hop w) (searched granted m hop w k l)) (unready s k l r)
 
 -- ---- the snapshot
 -- The best candidate's number, or 0.
@@ -144,34 +142,23 @@ comparableFrames hop w = length (w .times) - 2 * countOf (contextFrames hop)
 abbrev pub coverage : Window → Float
 coverage w = atLeast zero⁺ ((duration w ⊖ trimmedMs) ⊘ atLeast one (duration w))
 
-abbrev pub candidateShown : Float → Window → Candidate → CandidateDiagnostics
-candidateShown hop w c = record {
+-- A candidate, with the comparable frames and the coverage that all of a snapshot share.
+abbrev pub candidateShown : ℕ → Float → Candidate → CandidateDiagnostics
+candidateShown comparable covered c = record {
   «offset_ms» = c .«offset_ms»;
   «coarse_offset_ms» = c .«offset_ms»;
-  «comparable_frame_count» = comparableFrames hop w;
-  «coverage_ratio» = coverage w;
+  «comparable_frame_count» = comparable;
+  «coverage_ratio» = covered;
   «combined_dense_score» = c .score;
 }
 
-unfoldable pub candidatesShown : Float → Window → List Candidate → List CandidateDiagnostics
-candidatesShown hop w [] = []
-candidatesShown hop w (c ∷ cs) = candidateShown hop w c ∷ candidatesShown hop w cs
+unfoldable pub candidatesShown : ℕ → Float → List Candidate → List CandidateDiagnostics
+candidatesShown comparable covered [] = []
+candidatesShown comparable covered (c ∷ cs) = candidateShown comparable covered c ∷ candidatesShown comparable covered cs
 
 -- As the array of 8 that a snapshot has.
-abbrev pub candidateArray : Float → Window → List Candidate → List CandidateDiagnostics
-candidateArray hop w found = candidatesShown hop w found ++ replicate (candidatesMost - length found) blankCandidate
-
--- A track is shown.
-unfoldable pub isPublishing : State → Bool
-isPublishing state.Ready = false
-isPublishing state.Listening = false
-isPublishing state.Locking = false
-isPublishing state.Confirmed = true
-isPublishing state.Locked = true
-isPublishing state.Drifting = false
-isPublishing state.Relocking = false
-isPublishing state.Lost = false
-isPublishing state.Failed = false
+abbrev pub candidateArray : ℕ → Float → List Candidate → List CandidateDiagnostics
+candidateArray comparable covered found = candidatesShown comparable covered found ++ replicate (candidatesMost - length found) blankCandidate
 
 unfoldable pub magnitudeOf : Maybe → Maybe
 magnitudeOf maybe.Absent = maybe.Absent
@@ -181,12 +168,12 @@ abbrev pub trackCount : Hypothesis → ℕ
 trackCount hypothesis.Absent = 0
 trackCount (hypothesis.Held offset first last correlation) = 1
 
-abbrev pub diagnosticsOf : Settings → Window → Decision → Diagnostics
-diagnosticsOf s w d =
+abbrev pub diagnosticsOf : Configuration → Float → Window → Decision → Diagnostics
+diagnosticsOf c hop w d =
     let publishing = isPublishing (d .verdict .state) in
     record {
       «query_duration_ms» = duration w;
-      «active_frame_fraction» = activeFraction (s .configuration) w;
+      «active_frame_fraction» = activeFraction c w;
       «coarse_ambiguous» = d .global && ambiguous (d .found);
       «dense_margin» = cond (d .global) (marginOf (d .found)) zero⁺;
       «offset_stability_ms» = magnitudeOf (d .verdict .innovation);
@@ -195,20 +182,20 @@ diagnosticsOf s w d =
       «offset_tracker_confirmed» = publishing;
       «offset_tracker_stable» = publishing && eq (d .verdict .coast) zero⁺;
       «candidate_count» = length (d .found);
-      candidates = candidateArray (s .«hop_ms») w (d .found);
+      candidates = candidateArray (comparableFrames hop w) (coverage w) (d .found);
       spectral = spectralOf d;
     }
 
 abbrev pub phaseOf : Reached → LockPhase
-phaseOf k = cond (k .final) phase.Final (cond (k .confirmed) phase.Confirmed (cond (k .provisional) phase.Provisional phase.None))
+phaseOf k = cond (k .«final_lock») phase.Final (cond (k .confirmed) phase.Confirmed (cond (k .provisional) phase.Provisional phase.None))
 
 abbrev pub stageOf : State → Bool → Stage
 stageOf s global = cond (isPublishing s) stage.Tracking (cond global stage.RobustVerify stage.Readiness)
 
--- The offset added to the window's endpoint is the place on the reference.
-abbrev pub estimateAt : Window → Maybe → Estimate
-estimateAt w maybe.Absent = estimate.Absent
-estimateAt w (maybe.Is offset) = estimate.At (endpointOf w) (record { 0 = endpointOf w .0 ⊕ offset }) offset
+-- The offset added to a window's endpoint is the place on the reference.
+abbrev pub estimateAt : RecordedMs → Maybe → Estimate
+estimateAt endpoint maybe.Absent = estimate.Absent
+estimateAt endpoint (maybe.Is offset) = estimate.At endpoint (record { 0 = endpoint .0 ⊕ offset }) offset
 
 abbrev pub trackCorrelation : Hypothesis → Float
 trackCorrelation hypothesis.Absent = zero⁺
@@ -224,16 +211,18 @@ confidenceOf maybe.Absent correlation coast = zero⁺
 confidenceOf (maybe.Is offset) correlation coast = betweenZeroAndOne (correlation ⊗ (one ⊖ coast ⊘ coastMostMs))
 
 -- The snapshot of a decision, with the milestones' readings as they are given.
-unfoldable pub publish : Settings → Window → Decision → Milestones → Snapshot
-publish s w d m =
+unfoldable pub publish : Configuration → Float → Window → Decision → Milestones → Snapshot
+publish c hop w d m =
     let v = d .verdict in
     record {
       state = v .state;
       phase = phaseOf (d .reached);
       stage = stageOf (v .state) (d .global);
-      estimate = estimateAt w (v .offset);
+      estimate = estimateAt (endpointOf w) (v .offset);
       «withhold_reason» = v .reason;
       confidence = confidenceOf (v .offset) (cond (isPublishing (v .state)) (trackCorrelation (d .lock .accepted)) (ofBest (λ (c : Candidate). c .score) (d .found))) (v .coast);
-      diagnostics = diagnosticsOf s w d;
-      milestones = m;
+      diagnostics = diagnosticsOf c hop w d;
+      «first_provisional_lock_elapsed_ms» = m .«first_provisional_ms»;
+      «confirmed_lock_elapsed_ms» = m .«confirmed_ms»;
+      «final_lock_elapsed_ms» = m .«final_ms»;
     }

@@ -1,6 +1,6 @@
 -- Readiness: why a window cannot be searched (document 01, Engine; engine.rs, `process`). Definitions only.
 use Prim.Native.Nat.{ℕ}
-use mathlib.Core.Bool.{Bool, true, false, cond, not}
+use mathlib.Core.Bool.{Bool, true, cond, not}
 use lib.ListN.{length, getD}
 use lib.Ieee.{Float, nan, inf, lt, le}
 use Rattle.numbers_spec.specs.Arithmetic.{_⊖_, _⊗_, _⊘_, zero⁺, atMost, real}
@@ -29,32 +29,16 @@ averageEnergy w = cond (lt zero⁺ (meanPower w)) (ten ⊗ log10Of (meanPower w)
 
 -- ---- how long it has to be
 -- Once confirmed, the shorter of the readiness duration and the tracking duration less a hop.
-abbrev pub minimumDuration : Settings → Bool → Float
-minimumDuration s confirmed =
-    let c = s .configuration in
-    cond confirmed (atMost (c .«minimum_readiness_duration_ms») (c .«tracking_query_duration_ms» ⊖ s .«hop_ms»)) (c .«minimum_readiness_duration_ms»)
+abbrev pub minimumDuration : Configuration → Float → Bool → Float
+minimumDuration c hop confirmed =
+    cond confirmed (atMost (c .«minimum_readiness_duration_ms») (c .«tracking_query_duration_ms» ⊖ hop)) (c .«minimum_readiness_duration_ms»)
 
 -- ---- the reasons, tried in this order
-unfoldable pub readiness : Settings → Bool → Window → WithholdReason
-readiness s confirmed w =
-    let c = s .configuration in
+unfoldable pub readiness : Configuration → Settings → Bool → Window → WithholdReason
+readiness c s confirmed w =
     cond (not (indexed s)) reason.IndexUnavailable
-    (cond (lt (duration w) (minimumDuration s confirmed)) reason.InsufficientDuration
+    (cond (lt (duration w) (minimumDuration c (s .«hop_ms») confirmed)) reason.InsufficientDuration
     (cond (not (acceptsTimeline s w)) reason.LostSignal
     (cond (lt (averageEnergy w) (c .«minimum_average_energy_dbfs»)) reason.InsufficientEnergy
     (cond (lt (activeFraction c w) (c .«minimum_active_frame_fraction»)) reason.InsufficientActiveFrames
     reason.None))))
-
--- No reason to withhold.
-unfoldable pub isNone : WithholdReason → Bool
-isNone reason.None = true
-isNone reason.InsufficientDuration = false
-isNone reason.InsufficientEnergy = false
-isNone reason.InsufficientActiveFrames = false
-isNone reason.InsufficientLandmarkEvidence = false
-isNone reason.WeakAlignmentPeak = false
-isNone reason.AmbiguousOffset = false
-isNone reason.UnstableTrackingResidual = false
-isNone reason.LostSignal = false
-isNone reason.DecodeFailed = false
-isNone reason.IndexUnavailable = false

@@ -9,7 +9,8 @@ use Rattle.numbers_spec.specs.Arithmetic.{zero⁺, one}
 use Rattle.matcher_spec.specs.Timeline.{validValues}
 use Rattle.matcher_spec.specs.Energy.{reduction}
 use Rattle.matcher_spec.specs.Index.{Index}
-use Rattle.engine_spec.specs.Windows.{Window}
+use Rattle.engine_spec.specs.Windows.{Window, Submission}
+use Rattle.engine_spec.specs.Milestones.{milestonesShown}
 use Rattle.matcher_spec.specs.Features.{Features}
 use Rattle.engine_spec.specs.declared.types.RecordedMs.{RecordedMs}
 use Rattle.engine_spec.specs.declared.types.ClockMs.{ClockMs}
@@ -28,36 +29,39 @@ use Rattle.engine_spec.specs.declared.types.Endpoint.{Endpoint}
 use Rattle.engine_spec.specs.declared.types.Endpoint.the-variants as endpoint
 use Rattle.engine_spec.specs.declared.types.Estimate.{Estimate}
 use Rattle.engine_spec.specs.declared.types.Estimate.the-variants as estimate
-use Rattle.engine_spec.specs.declared.types.Answer.{Answer}
-use Rattle.engine_spec.specs.declared.types.Answer.the-variants as answer
+use Rattle.engine_spec.specs.declared.types.Refusal.{Refusal}
+use Rattle.engine_spec.specs.declared.types.Refusal.the-variants as refusal
 use Rattle.numbers_spec.specs.Rows.{every}
 use Rattle.matcher_spec.specs.Limits.{hopLeast, hopMost, framesMost, windowMost, bandsMost, candidatesMost, farthestMs, trackMost}
 
 -- ---- the numbers
-unfoldable pub numberOf : Answer → ℕ
-numberOf answer.Opened = 0
-numberOf answer.Computed = 0
-numberOf answer.Reread = 0
-numberOf answer.InvalidConfiguration = 1
-numberOf answer.HopOutOfRange = 2
-numberOf answer.ReferenceTooLarge = 3
-numberOf answer.ReferenceMiscounted = 4
-numberOf answer.ReferenceTimeTooFar = 5
-numberOf answer.IndexTooShort = 6
-numberOf answer.StateOutOfRange = 7
-numberOf answer.ClockNotFinite = 8
-numberOf answer.NoFrames = 9
-numberOf answer.WindowTooLarge = 10
-numberOf answer.WindowInvalid = 11
-numberOf answer.WindowTimeOutOfRange = 12
-numberOf answer.WorkTooShort = 13
+unfoldable pub numberOf : Refusal → ℕ
+numberOf refusal.None = 0
+numberOf refusal.InvalidConfiguration = 1
+numberOf refusal.HopOutOfRange = 2
+numberOf refusal.ReferenceTooLarge = 3
+numberOf refusal.ReferenceMiscounted = 4
+numberOf refusal.ReferenceTimeTooFar = 5
+numberOf refusal.IndexTooShort = 6
+numberOf refusal.StateOutOfRange = 7
+numberOf refusal.ClockNotFinite = 8
+numberOf refusal.NoFrames = 9
+numberOf refusal.WindowTooLarge = 10
+numberOf refusal.WindowInvalid = 11
+numberOf refusal.WindowTimeOutOfRange = 12
+numberOf refusal.WorkTooShort = 13
 
-abbrev pub refuses : Answer → Bool
-refuses a = ltb 0 (numberOf a)
+abbrev pub refuses : Refusal → Bool
+refuses r = ltb 0 (numberOf r)
 
 -- The refusal where the test fails, else what comes after it.
-abbrev pub unless : Bool → Answer → Answer → Answer
-unless test refusal rest = cond test rest refusal
+abbrev pub unless : Bool → Refusal → Refusal → Refusal
+unless test r rest = cond test rest r
+
+-- The first of two that refuses.
+infixr 5 _then_
+abbrev pub _then_ : Refusal → Refusal → Refusal
+r then rest = cond (refuses r) r rest
 
 -- ---- ranges
 -- -l ≤ x ≤ l; a NaN is not.
@@ -100,15 +104,15 @@ indexFits frames bands x =
     && (leb (bands * (frames + 1)) (length (x .fineEnergy)) && leb (bands * (frames / reduction + 1)) (length (x .coarseEnergy))))
 
 -- ---- the order of opening
-unfoldable pub openingRefusal : Configuration → Float → Features → Index → Answer
+unfoldable pub openingRefusal : Configuration → Float → Features → Index → Refusal
 openingRefusal c hop reference x =
-    unless (validConfiguration c) answer.InvalidConfiguration
-    (unless (hopInRange hop) answer.HopOutOfRange
-    (unless (countsInRange (length (reference .times)) (reference .bands)) answer.ReferenceTooLarge
-    (unless (eqb (length (reference .values)) (reference .bands * length (reference .times))) answer.ReferenceMiscounted
-    (unless (every nearOrNotFinite (reference .times)) answer.ReferenceTimeTooFar
-    (unless (indexFits (length (reference .times)) (reference .bands) x) answer.IndexTooShort
-    answer.Opened)))))
+    unless (validConfiguration c) refusal.InvalidConfiguration
+    (unless (hopInRange hop) refusal.HopOutOfRange
+    (unless (countsInRange (length (reference .times)) (reference .bands)) refusal.ReferenceTooLarge
+    (unless (eqb (length (reference .values)) (reference .bands * length (reference .times))) refusal.ReferenceMiscounted
+    (unless (every nearOrNotFinite (reference .times)) refusal.ReferenceTimeTooFar
+    (unless (indexFits (length (reference .times)) (reference .bands) x) refusal.IndexTooShort
+    refusal.None)))))
 
 -- ---- 7: what a state holds
 -- Frames and bands: both 0, or neither.
@@ -117,10 +121,9 @@ bothOrNeither frames bands = (eqb frames 0 && eqb bands 0) || (ltb 0 frames && l
 
 unfoldable pub validSettings : Settings → Bool
 validSettings s =
-    validConfiguration (s .configuration)
-    && (hopInRange (s .«hop_ms»)
+    hopInRange (s .«hop_ms»)
     && (countsInRange (s .«reference_frames») (s .«reference_bands»)
-    && (bothOrNeither (s .«reference_frames») (s .«reference_bands») && near (s .«reference_start_ms» .0))))
+    && (bothOrNeither (s .«reference_frames») (s .«reference_bands») && near (s .«reference_start_ms» .0)))
 
 abbrev pub trackNumber : Float → Bool
 trackNumber x = within trackMost x
@@ -153,16 +156,25 @@ validEstimate (estimate.At recorded reference offset) = trackNumber (recorded .0
 
 -- At most 8 candidates, and the estimate and the milestones of a state.
 unfoldable pub validSnapshot : Snapshot → Bool
-validSnapshot s = leb (s .diagnostics .«candidate_count») candidatesMost && (validEstimate (s .estimate) && validMilestones (s .milestones))
+validSnapshot s = leb (s .diagnostics .«candidate_count») candidatesMost && (validEstimate (s .estimate) && validMilestones (milestonesShown s))
 
 -- Where there is no last snapshot, nothing is asked of one.
 unfoldable pub validLast : Last → Bool
 validLast l = validEndpoint (l .«endpoint_ms») && (not (l .«has_snapshot») || validSnapshot (l .snapshot))
 
 unfoldable pub validEngine : Engine → Bool
-validEngine e = validSettings (e .settings) && (validLock (e .lock) && (validMilestones (e .milestones) && validLast (e .last)))
+validEngine e =
+    validConfiguration (e .configuration)
+    && (validSettings (e .settings) && (validLock (e .lock) && (validMilestones (e .milestones) && validLast (e .last))))
 
--- ---- 11 to 13: the window and the working buffers
+-- ---- 6 and 8: the index and the clock
+abbrev pub lentRefusal : Settings → Index → ClockMs → Refusal
+lentRefusal s x clock =
+    unless (indexFits (s .«reference_frames») (s .«reference_bands») x) refusal.IndexTooShort
+    (unless (finite (clock .0)) refusal.ClockNotFinite
+    refusal.None)
+
+-- ---- 9 to 12: a window alone
 unfoldable pub validWindow : Window → Bool
 validWindow w =
     ltb 0 (w .bands)
@@ -172,32 +184,27 @@ validWindow w =
 abbrev pub validEnergy : Float → Bool
 validEnergy x = lt x (inf false)
 
+unfoldable pub windowRefusal : Window → Refusal
+windowRefusal w =
+    unless (ltb 0 (length (w .times))) refusal.NoFrames
+    (unless (leb (length (w .times)) windowMost && leb (w .bands) bandsMost) refusal.WindowTooLarge
+    (unless (validWindow w) refusal.WindowInvalid
+    (unless (every near (w .times) && every validEnergy (w .energies)) refusal.WindowTimeOutOfRange
+    refusal.None)))
+
+-- ---- 13: the working buffers
 -- By the window's bands and frames and the state's frames.
 unfoldable pub workFits : ℕ → ℕ → ℕ → ℕ → ℕ → Bool
-workFits bands frames referenceFrames room32 room64 = leb (2 * bands * frames) room32 && leb (3 * bands * (frames + 1) + referenceFrames) room64
+workFits bands frames referenceFrames room32 room64 = leb (2 * (bands * frames)) room32 && leb (3 * (bands * (frames + 1)) + referenceFrames) room64
 
--- ---- a submission: what is handed in with the state
-pub record Submission : Type 0 where
-  pub index : Index
-  pub window : Window
-  pub clock : ClockMs
-  -- the working buffers' lengths
-  pub room32 : ℕ
-  pub room64 : ℕ
-
--- All that may be refused of it, by a state whose settings are these.
-unfoldable pub handedRefusal : Settings → Submission → Answer
-handedRefusal s i =
-    let w = i .window in
-    unless (indexFits (s .«reference_frames») (s .«reference_bands») (i .index)) answer.IndexTooShort
-    (unless (finite (i .clock .0)) answer.ClockNotFinite
-    (unless (ltb 0 (length (w .times))) answer.NoFrames
-    (unless (leb (length (w .times)) windowMost && leb (w .bands) bandsMost) answer.WindowTooLarge
-    (unless (validWindow w) answer.WindowInvalid
-    (unless (every near (w .times) && every validEnergy (w .energies)) answer.WindowTimeOutOfRange
-    (unless (workFits (w .bands) (length (w .times)) (s .«reference_frames») (i .room32) (i .room64)) answer.WorkTooShort
-    answer.Computed))))))
+abbrev pub workRefusal : Settings → Window → ℕ → ℕ → Refusal
+workRefusal s w room32 room64 = unless (workFits (w .bands) (length (w .times)) (s .«reference_frames») room32 room64) refusal.WorkTooShort refusal.None
 
 -- ---- the order of submission
-unfoldable pub submissionRefusal : Engine → Submission → Answer
-submissionRefusal e i = unless (validEngine e) answer.StateOutOfRange (handedRefusal (e .settings) i)
+-- All that may be refused of what is handed in, by a state whose settings are these.
+unfoldable pub handedRefusal : Settings → Submission → Refusal
+handedRefusal s i = lentRefusal s (i .index) (i .clock) then windowRefusal (i .window) then workRefusal s (i .window) (i .room32) (i .room64)
+
+-- 7 first: what the state holds.
+unfoldable pub submissionRefusal : Engine → Submission → Refusal
+submissionRefusal e i = unless (validEngine e) refusal.StateOutOfRange (handedRefusal (e .settings) i)

@@ -2,22 +2,19 @@
 use mathlib.Core.Bool.{Bool, true, false, cond, _&&_}
 use mathlib.Core.List.{List, [], _∷_}
 use lib.Ieee.{Float, le, neg}
-use Rattle.numbers_spec.specs.Arithmetic.{_⊕_, _⊖_, _⊗_, _⊘_, zero⁺, one, absolute, atLeast}
+use Rattle.numbers_spec.specs.Arithmetic.{_⊕_, _⊖_, _⊗_, _⊘_, zero⁺, one, atLeast}
 use Rattle.numbers_spec.specs.Exponential.{expOf}
+use Rattle.matcher_spec.specs.Features.{Features}
 use Rattle.matcher_spec.specs.Index.{Matcher}
 use Rattle.matcher_spec.specs.Search.{localSearch}
 use Rattle.matcher_spec.specs.declared.types.Candidate.{Candidate}
-use Rattle.engine_spec.specs.Thresholds.{coastMostMs, localMs, samePlaceMs, supportCorrelation, supportRecent, gainMs}
-use Rattle.engine_spec.specs.Windows.{Window, query, evidence, _after_}
+use Rattle.engine_spec.specs.Thresholds.{coastMostMs, localMs, supportCorrelation, supportRecent, gainMs}
+use Rattle.engine_spec.specs.Windows.{_after_, samePlace}
 use Rattle.engine_spec.specs.declared.types.RecordedMs.{RecordedMs}
 use Rattle.engine_spec.specs.declared.types.Maybe.{Maybe}
 use Rattle.engine_spec.specs.declared.types.Maybe.the-variants as maybe
 use Rattle.engine_spec.specs.declared.types.Hypothesis.{Hypothesis}
 use Rattle.engine_spec.specs.declared.types.Hypothesis.the-variants as hypothesis
-
--- Two offsets are the same place: at most 80 apart.
-abbrev pub samePlace : Float → Float → Bool
-samePlace a b = le (absolute (a ⊖ b)) samePlaceMs
 
 -- What a local search leaves: the track, whether this window supports it, how far the best lay from it, and what was found.
 pub record Tracked : Type 0 where
@@ -59,10 +56,10 @@ followed offset first last correlation now (best ∷ rest) =
     })
     (unsupported (hypothesis.Held offset first last correlation) (best ∷ rest))
 
--- A track that may still coast is looked for 100 either side; one that may not is dropped.
-unfoldable pub tracked : Matcher → Float → Window → Hypothesis → Tracked
-tracked m hop w hypothesis.Absent = unsupported hypothesis.Absent []
-tracked m hop w (hypothesis.Held offset first last correlation) =
-    cond (mayCoast (evidence hop w) last)
-    (followed offset first last correlation (evidence hop w) (localSearch (m .reference) (m .fine) (query w) (offset ⊖ localMs) (offset ⊕ localMs)))
+-- A track that may still coast is looked for 100 either side, in a query with this evidence time; one that may not is dropped.
+unfoldable pub tracked : Matcher → Features → RecordedMs → Hypothesis → Tracked
+tracked m query now hypothesis.Absent = unsupported hypothesis.Absent []
+tracked m query now (hypothesis.Held offset first last correlation) =
+    cond (mayCoast now last)
+    (followed offset first last correlation now (localSearch (m .reference) (m .fine) query (offset ⊖ localMs) (offset ⊕ localMs)))
     (unsupported hypothesis.Absent [])

@@ -1,18 +1,19 @@
--- What is handed in: the reference, the lent index, a window; and the times of a window. Definitions only.
+-- What is handed in: the reference, the lent index, a window, a submission; the times of a window, and what is near what. Definitions only.
 use Prim.Native.Nat.{ℕ, _-_}
 use mathlib.Core.Bool.{Bool, false, not, _&&_, _||_}
 use mathlib.Core.List.{List}
 use lib.Dec.{eqb}
 use lib.ListN.{length, getD}
-use lib.Ieee.{Float, nan, lt}
-use Rattle.numbers_spec.specs.Arithmetic.{_⊕_, _⊖_, _⊗_, two}
+use lib.Ieee.{Float, nan, le, lt}
+use Rattle.numbers_spec.specs.Arithmetic.{_⊕_, _⊖_, _⊗_, two, absolute}
 use Rattle.matcher_spec.specs.Centring.{contextFrames}
 use Rattle.matcher_spec.specs.Timeline.{accepts}
 use Rattle.matcher_spec.specs.Index.{Index, Matcher, lentMatcher}
 use Rattle.matcher_spec.specs.declared.types.Reference.{Reference}
 use Rattle.matcher_spec.specs.Features.{Features, features}
-use Rattle.engine_spec.specs.Thresholds.{rereadMs}
+use Rattle.engine_spec.specs.Thresholds.{rereadMs, samePlaceMs, staleMs}
 use Rattle.engine_spec.specs.declared.types.RecordedMs.{RecordedMs}
+use Rattle.engine_spec.specs.declared.types.ClockMs.{ClockMs}
 use Rattle.engine_spec.specs.declared.types.Settings.{Settings}
 use Rattle.engine_spec.specs.declared.types.Endpoint.{Endpoint}
 use Rattle.engine_spec.specs.declared.types.Endpoint.the-variants as endpoint
@@ -24,6 +25,15 @@ pub record Window : Type 0 where
   pub times : List Float
   pub energies : List Float
   pub values : List Float
+
+-- A submission: what is handed in with the state.
+pub record Submission : Type 0 where
+  pub index : Index
+  pub window : Window
+  pub clock : ClockMs
+  -- the working buffers' lengths
+  pub room32 : ℕ
+  pub room64 : ℕ
 
 -- ---- what the settings say of the reference
 -- Whether there is an index.
@@ -52,9 +62,21 @@ endpointOf w = record { 0 = getD (w .times) (length (w .times) - 1) nan }
 abbrev pub duration : Window → Float
 duration w = endpointOf w after start w
 
--- Evidence time (document 01): the endpoint less the rounded 250 / hop frames that centring trims, here without the floor of 1.
-unfoldable pub evidence : Float → Window → RecordedMs
-evidence hop w = record { 0 = endpointOf w .0 ⊖ contextFrames hop ⊗ hop }
+-- Evidence time (document 01): an endpoint less the rounded 250 / hop frames that centring trims, here without the floor of 1.
+unfoldable pub evidenceAt : Float → RecordedMs → RecordedMs
+evidenceAt hop endpoint = record { 0 = endpoint .0 ⊖ contextFrames hop ⊗ hop }
+
+abbrev pub evidence : Float → Window → RecordedMs
+evidence hop w = evidenceAt hop (endpointOf w)
+
+-- ---- what the lock rules and the chain's definition ask of two answers
+-- Two offsets are the same place: at most 80 apart.
+abbrev pub samePlace : Float → Float → Bool
+samePlace a b = le (absolute (a ⊖ b)) samePlaceMs
+
+-- Evidence that is not stale: at most 2,500 old.
+abbrev pub current : RecordedMs → RecordedMs → Bool
+current now last = le (now after last) staleMs
 
 -- ---- a window as the matcher takes it
 abbrev pub query : Window → Features

@@ -1,6 +1,6 @@
 // The engine's types (types.rs, engine.rs). An `Option` is an enum that carries its numbers or
-use matcher_spec::limits::CANDIDATES_MOST;
 // nothing; an array of 8 with a count stands for a `Vec` of candidates.
+use matcher_spec::limits::CANDIDATES_MOST;
 
 // ---- milliseconds, by what they are counted on: recorded sound, the reference, the clock
 pub struct RecordedMs(pub f64);
@@ -82,13 +82,6 @@ pub enum Milestone {
     At(ClockMs),
 }
 
-// When the first passing search was answered, and the first end of a chain.
-pub struct Milestones {
-    pub first_provisional_ms: Milestone,
-    pub confirmed_ms: Milestone,
-    pub final_ms: Milestone,
-}
-
 pub struct SpectralDiagnostics {
     pub global_search: bool,
     pub correlation: f64,
@@ -131,13 +124,32 @@ pub struct Snapshot {
     pub withhold_reason: WithholdReason,
     pub confidence: f64,
     pub diagnostics: Diagnostics,
-    pub milestones: Milestones,
+    pub first_provisional_lock_elapsed_ms: Milestone,
+    pub confirmed_lock_elapsed_ms: Milestone,
+    pub final_lock_elapsed_ms: Milestone,
+}
+
+// ---- what a decision hands on
+// Which milestones are there: all that a decision knows of them.
+pub struct Reached {
+    pub provisional: bool,
+    pub confirmed: bool,
+    pub final_lock: bool,
+}
+
+// What is said of the place: the state, why nothing supported is shown, the offset shown, how far the
+// local best lay from the track, and the coast.
+pub struct Verdict {
+    pub state: State,
+    pub reason: WithholdReason,
+    pub offset: Maybe,
+    pub innovation: Maybe,
+    pub coast: f64,
 }
 
 // ---- the engine, nested by what changes together
 // Fixed at opening. Without index both counts and the start are 0.
 pub struct Settings {
-    pub configuration: Configuration,
     pub hop_ms: f64,
     pub reference_frames: u16,
     pub reference_bands: u16,
@@ -163,6 +175,13 @@ pub struct Lock {
     pub last_global_search_ms: RecordedMs,
 }
 
+// When the first passing search was answered, and the first end of a chain.
+pub struct Milestones {
+    pub first_provisional_ms: Milestone,
+    pub confirmed_ms: Milestone,
+    pub final_ms: Milestone,
+}
+
 pub enum Endpoint {
     Absent,
     At(RecordedMs),
@@ -176,6 +195,7 @@ pub struct Last {
 }
 
 pub struct Engine {
+    pub configuration: Configuration,
     pub settings: Settings,
     pub lock: Lock,
     pub milestones: Milestones,
@@ -183,11 +203,9 @@ pub struct Engine {
 }
 
 // ---- what the calls give back
-// One case for each refusal of document 01; its number stands in specs/Refusals.antt.
-pub enum Answer {
-    Opened,
-    Computed,
-    Reread,
+// One case for each refusal of document 01, and one for none; numbers stand in specs/Refusals.antt.
+pub enum Refusal {
+    None,
     InvalidConfiguration,
     HopOutOfRange,
     ReferenceTooLarge,
@@ -201,6 +219,13 @@ pub enum Answer {
     WindowInvalid,
     WindowTimeOutOfRange,
     WorkTooShort,
+}
+
+pub enum Answer {
+    Opened,
+    Computed,
+    Reread,
+    Refused(Refusal),
 }
 
 // Where opening is refused, `engine` is one that every submission refuses.
@@ -218,6 +243,6 @@ pub struct SubmitResult {
 
 // The coast of the last computed answer, where it was Locked. Refused, or not Locked: absent.
 pub struct Age {
-    pub answer: Answer,
+    pub refusal: Refusal,
     pub coast_ms: Maybe,
 }
