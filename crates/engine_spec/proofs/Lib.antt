@@ -20,3 +20,4 @@ pub mod Struck
 pub mod Run
 pub mod Contract
 pub mod Figures
+pub mod Constants

@@ -15,5 +15,6 @@ pub mod Chain
 pub mod Guarantee
 pub mod Guaranteed
 pub mod Figures
+pub mod Constants
 pub mod Lent
 pub mod Room

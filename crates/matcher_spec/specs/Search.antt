@@ -48,7 +48,7 @@ abbrev pub queryStart : ℕ → Features → Float
 queryStart r w = getD (w .times) r nan
 
 -- ---- a candidate
--- -0.000001
+-- -0.000001 and -0.5
 abbrev pub flat : Float
 flat = ofBits binary64 0xbeb0c6f7a0b5ed8d
 

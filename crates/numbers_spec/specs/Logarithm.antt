@@ -8,7 +8,7 @@ use Rattle.numbers_spec.specs.Narrow.{nearestF32}
 use Rattle.numbers_spec.specs.Exponential.{hi, lo, ln10, bias}
 
 -- ---- constants
--- 2 ^ -1022, the smallest normal f64
+-- 2 ^ -1022, the smallest normal f64: the one nearest to 2.2250738585072014e-308
 abbrev pub smallestNormal : Float
 smallestNormal = ofBits binary64 0x0010000000000000
 
