@@ -6,23 +6,25 @@ use mathlib.Core.Logic.{inl, inr}
 use mathlib.Core.Path.{_≡_, refl, sym, ap, _∙_, subst}
 use lib.Dec.{T, T-not, ltb, leb·zero, leb·suc-suc}
 use lib.ListN.{length, getD}
-use lib.Ieee.{Float, binary64, le, lt, ofBits}
+use lib.Ieee.{Float, nan, inf, fin, binary64, neg, le, lt, eq, isNan, ofBits}
 use lib.Ieee.Scale.{finite}
 use Rattle.numbers_spec.specs.Arithmetic.{_⊕_, _⊖_, zero⁺, absolute}
-use Rattle.numbers_spec.proofs.Sums.{sub-self}
+use Rattle.numbers_spec.specs.Values.{Number}
+use Rattle.numbers_spec.proofs.Order.{not-lt→le}
+use Rattle.numbers_spec.proofs.Sums.{sub-self, sub-number}
 use Rattle.matcher_spec.specs.declared.types.Candidate.{Candidate}
 use Rattle.matcher_spec.specs.Features.{Features}
 use Rattle.matcher_spec.specs.Index.{Matcher}
 use Rattle.matcher_spec.specs.Search.{wholeSearch, localSearch}
 use Rattle.engine_spec.specs.Thresholds.{coastMostMs, localMs, samePlaceMs}
-use Rattle.engine_spec.specs.Windows.{Window, indexed, query, endpointOf, evidence, _after_}
+use Rattle.engine_spec.specs.Windows.{Window, indexed, query, endpointOf, evidence, _after_, samePlace}
 use Rattle.engine_spec.specs.Opening.{blankCandidate}
 use Rattle.engine_spec.specs.Tracking.{Tracked, tracked, followed, supports, mayCoast}
 use Rattle.engine_spec.specs.Locking.{Searched, searched, isDue, wholeSearched, passed, passing, confirms, firstEvidence, keptOrReplaced}
-use Rattle.engine_spec.specs.Publishing.{Decision, publish, ready, unready, verdictOf, ambiguous, candidatesShown, candidateArray, comparableFrames, coverage}
-use Rattle.engine_spec.specs.Chain.{bestOffset}
+use Rattle.engine_spec.specs.Publishing.{Decision, publish, estimateAt, offTrack, ready, unready, verdictOf, ambiguous, candidatesShown, candidateArray, comparableFrames, coverage}
+use Rattle.engine_spec.specs.Chain.{bestOffset, offsetShown}
 use Rattle.engine_spec.specs.Guarantee.{Shows}
-use Rattle.engine_spec.specs.Cases.{isNone, isLocked, interrupting, unreachable}
+use Rattle.engine_spec.specs.Cases.{isNone, interrupting, unreachable}
 use Rattle.engine_spec.specs.declared.types.Reached.{Reached}
 use Rattle.engine_spec.specs.declared.types.Verdict.{Verdict}
 use Rattle.engine_spec.specs.declared.types.RecordedMs.{RecordedMs}
@@ -30,6 +32,8 @@ use Rattle.engine_spec.specs.declared.types.Configuration.{Configuration
 use Rattle.engine_spec.specs.declared.types.Settings.{Settings}
 use Rattle.engine_spec.specs.declared.types.Lock.{Lock}
 use Rattle.engine_spec.specs.declared.types.Milestones.{Milestones}
+use Rattle.engine_spec.specs.declared.types.Snapshot.{Snapshot}
+use Rattle.engine_spec.specs.declared.types.Maybe.{Maybe}
 use Rattle.engine_spec.specs.declared.types.Maybe.the-variants as maybe
 use Rattle.engine_spec.specs.declared.types.Hypothesis.{Hypothesis}
 use Rattle.engine_spec.specs.declared.types.Hypothesis.the-variants as hypothesis
@@ -37,18 +41,18 @@ use Rattle.engine_spec.specs.declared.types.State.{State}
 use Rattle.engine_spec.specs.declared.types.State.the-variants as state
 use Rattle.engine_spec.specs.declared.types.WithholdReason.{WithholdReason}
 use Rattle.engine_spec.specs.declared.types.WithholdReason.the-variants as reason
-use Rattle.engine_spec.proofs.Tests.{cond-elim, not-or-r, T-is, not-T-is}
-use Rattle.engine_spec.proofs.Effects.{isHeld, Track, gone, set, kept, same, weak, pass, Effects, bestOf, Shown, TrackShown, free, fast, View, Silence}
+use Rattle.engine_spec.proofs.Tests.{cond-elim, not-or-l, not-or-r, T-is, not-T-is}
+use Rattle.engine_spec.proofs.Effects.{isHeld, Track, gone, set, kept, Ended, ended, FiniteTrack, Offsets, same, weak, pass, Effects, bestOf, Shown, TrackShown, off, on, View, Silence}
 
 -- ---- the track
 -- A local search leaves the old track, or one with this evidence,
-followed-track : (lock : Bool) (offset : Float) (first last : RecordedMs) (c : Float) (now : RecordedMs) (found : List Candidate)
+followed-track : (lock : Bool) (offset : Float) (first last : RecordedMs) (c : Float) (now : RecordedMs) (found : List Candidate) → T (mayCoast now last)
     → let t = followed offset first last c now found in Track now lock (hypothesis.Held offset first last c) (t .accepted) (t .supported)
 unfolding followed
-followed-track lock offset first last c now [] = kept
-followed-track lock offset first last c now (best ∷ rest) =
+followed-track lock offset first last c now [] h = kept h
+followed-track lock offset first last c now (best ∷ rest) h =
     cond-elim (λ (t : Tracked). Track now lock (hypothesis.Held offset first last c) (t .accepted) (t .supported)) (supports offset best) _ _
-    (λ h. set refl (inr tt)) (λ h. kept)
+    (λ s. set refl (inr tt)) (λ s. kept h)
 
 -- or none, where the track may not coast on.
 tracked-track : (lock : Bool) (m : Matcher) (q : Features) (now : RecordedMs) (h : Hypothesis)
@@ -57,7 +61,7 @@ unfolding tracked
 tracked-track lock m q now hypothesis.Absent = gone
 tracked-track lock m q now (hypothesis.Held offset first last c) =
     cond-elim (λ (t : Tracked). Track now lock (hypothesis.Held offset first last c) (t .accepted) (t .supported)) (mayCoast now last) _ _
-    (λ h. followed-track lock offset first last c now (localSearch (m .reference) (m .fine) q (offset ⊖ localMs) (offset ⊕ localMs))) (λ h. gone)
+    (λ h. followed-track lock offset first last c now (localSearch (m .reference) (m .fine) q (offset ⊖ localMs) (offset ⊕ localMs)) h) (λ h. gone)
 
 -- The end of a chain leaves one with this evidence: a track is kept only where the window supports it.
 replaced-track : (now : RecordedMs) {h a : Hypothesis} {supported : Bool} (best : Candidate) → Track now true h a supported → Track now true h (keptOrReplaced a supported best now) true
@@ -65,12 +69,42 @@ unfolding keptOrReplaced
 replaced-track now best gone = set refl (inl tt)
 replaced-track now {h = h} best (set {o = o} e u) =
     cond-elim (λ (t : Hypothesis). Track now true h t true) (lt samePlaceMs (absolute (o ⊖ best .«offset_ms»)) || false) _ _ (λ x. set refl (inl tt)) (λ x. set e (inl tt))
-replaced-track now {h = h} best (kept {o = o}) =
+replaced-track now {h = h} best (kept {o = o} u) =
     cond-elim (λ (t : Hypothesis). Track now true h t true) (lt samePlaceMs (absolute (o ⊖ best .«offset_ms»)) || true) _ _ (λ x. set refl (inl tt))
     (λ x. absurd (not-or-r (lt samePlaceMs (absolute (o ⊖ best .«offset_ms»))) true x))
 
+-- and at the best's place: kept only where that is the same.
+same-self : (x : Float) → T (finite x) → T (samePlace x x)
+unfolding le lt eq ofBits
+same-self x f = subst (λ (d : Float). T (le (absolute d) samePlaceMs)) (sym (sub-self binary64 x f)) tt
+
+neg-number : (x : Float) → Number x → Number (neg x)
+unfolding neg isNan
+neg-number nan h = h
+neg-number (inf s) h = h
+neg-number (fin s m e) h = h
+
+not-apart : (x y : Float) → T (finite x) → T (finite y) → T (not (lt samePlaceMs (absolute (x ⊖ y)))) → T (samePlace x y)
+not-apart x y f g h =
+    let d = sub-number binary64 x y f g in
+    not-lt→le samePlaceMs (absolute (x ⊖ y)) (unfold isNan ofBits in tt)
+    (cond-elim Number (lt (x ⊖ y) zero⁺) (neg (x ⊖ y)) (x ⊖ y) (λ _. neg-number (x ⊖ y) d) (λ _. d)) h
+
+replaced-place : (now : RecordedMs) {lock : Bool} {h a : Hypothesis} {supported : Bool} (best : Candidate) (rest : List Candidate) → Track now lock h a supported → FiniteTrack a → T (finite (best .«offset_ms»))
+    → Ended now (keptOrReplaced a supported best now) true (best ∷ rest)
+unfolding keptOrReplaced
+replaced-place now best rest gone t f = ended refl (same-self (best .«offset_ms») f)
+replaced-place now best rest (set {o = o} e u) t f =
+    let far = lt samePlaceMs (absolute (o ⊖ best .«offset_ms»)) in
+    cond-elim (λ (a : Hypothesis). Ended now a true (best ∷ rest)) (far || false) _ _
+    (λ x. ended refl (same-self (best .«offset_ms») f)) (λ x. ended e (not-apart o (best .«offset_ms») t f (not-or-l far false x)))
+replaced-place now best rest (kept {o = o} u) t f =
+    let far = lt samePlaceMs (absolute (o ⊖ best .«offset_ms»)) in
+    cond-elim (λ (a : Hypothesis). Ended now a true (best ∷ rest)) (far || true) _ _
+    (λ x. ended refl (same-self (best .«offset_ms») f)) (λ x. absurd (not-or-r far true x))
+
 -- ---- the searches of one window
-module _ (m : Matcher) (hop : Float) (w : Window) (k : Reached) (l : Lock) where
+module _ (m : Matcher) (hop : Float) (w : Window) (k : Reached) (l : Lock) (O : Offsets m (query w) (evidence hop w) (l .accepted)) where
   -- a passing whole search: the end of a chain, or not
   passed-effects : (b : Candidate) (rest : List Candidate) → b ∷ rest ≡ wholeSearch m (query w) → T (passing (b ∷ rest))
       → Effects m hop w k l (passed hop (evidence hop w) (endpointOf w) k (firstEvidence (l .pending) (b .«offset_ms») (evidence hop w)) (tracked m (query w) (evidence hop w) (l .accepted)) b rest)
@@ -82,28 +116,29 @@ module _ (m : Matcher) (hop : Float) (w : Window) (k : Reached) (l : Lock) where
       cond-elim (λ (x : Searched). Effects m hop w k l x) ends _ _
       (λ h. record {
         lock = true;
-        track = replaced-track now b (tracked-track true m (query w) (evidence hop w) (l .accepted));
+        track = replaced-track now b (tracked-track true m (query w) now (l .accepted));
+        ended = λ _. replaced-place now b rest (tracked-track true m (query w) now (l .accepted)) (O .track-finite) (O .best-finite b rest q);
         pend = pass q p refl (sym (T-is ends h)) refl;
       })
-      (λ h. record { lock = false; track = tracked-track false m (query w) (evidence hop w) (l .accepted); pend = pass q p refl (sym (not-T-is ends h)) refl })
+      (λ h. record { lock = false; track = tracked-track false m (query w) (evidence hop w) (l .accepted); ended = λ t. absurd t; pend = pass q p refl (sym (not-T-is ends h)) refl })
 
   -- a whole search
   whole-effects : (found : List Candidate) → found ≡ wholeSearch m (query w) → Effects m hop w k l (wholeSearched hop (evidence hop w) (endpointOf w) k (l .pending) (tracked m (query w) (evidence hop w) (l .accepted)) found)
   unfolding wholeSearched passing
-  whole-effects [] q = record { lock = false; track = tracked-track false m (query w) (evidence hop w) (l .accepted); pend = weak q tt refl refl }
+  whole-effects [] q = record { lock = false; track = tracked-track false m (query w) (evidence hop w) (l .accepted); ended = λ t. absurd t; pend = weak q tt refl refl }
   whole-effects (b ∷ rest) q =
       cond-elim (λ (x : Searched). Effects m hop w k l x) (passing (b ∷ rest)) _ _
       (λ p. passed-effects b rest q p)
-      (λ p. record { lock = false; track = tracked-track false m (query w) (evidence hop w) (l .accepted); pend = weak q p refl refl })
+      (λ p. record { lock = false; track = tracked-track false m (query w) (evidence hop w) (l .accepted); ended = λ t. absurd t; pend = weak q p refl refl })
 
 -- What the searches do, with a whole search or without.
-pub effects : (granted : Bool) (m : Matcher) (hop : Float) (w : Window) (k : Reached) (l : Lock) → Effects m hop w k l (searched granted m hop w k l)
+pub effects : (granted : Bool) (m : Matcher) (hop : Float) (w : Window) (k : Reached) (l : Lock) → Offsets m (query w) (evidence hop w) (l .accepted) → Effects m hop w k l (searched granted m hop w k l)
 unfolding searched
-effects granted m hop w k l =
+effects granted m hop w k l O =
     let t = tracked m (query w) (evidence hop w) (l .accepted) in
     cond-elim (λ (x : Searched). Effects m hop w k l x) (granted && isDue (t .supported) (endpointOf w) (l .«last_global_search_ms»)) _ _
-    (λ h. whole-effects m hop w k l (wholeSearch m (query w)) refl)
-    (λ h. record { lock = false; track = tracked-track false m (query w) (evidence hop w) (l .accepted); pend = same refl refl })
+    (λ h. whole-effects m hop w k l O (wholeSearch m (query w)) refl)
+    (λ h. record { lock = false; track = tracked-track false m (query w) (evidence hop w) (l .accepted); ended = λ t. absurd t; pend = same refl refl })
 
 -- ---- what is shown of a search
 -- The first of the array is the best of what was found.
@@ -143,6 +178,7 @@ silenced c hop s w k l r ms h = record {
   shown = found-shown c hop w (unready s k l r) ms;
   quiet = quiet-state (indexed s) (k .confirmed);
   withheld = h;
+  placeless = λ t. t;
   usual = usual-quiet (indexed s) (k .confirmed);
 }
 
@@ -167,11 +203,6 @@ unfolding unreachable
 usual-on true h = refl
 usual-on false h = absurd h
 
-not-locked : (confirmed : Bool) → cond confirmed state.Relocking state.Locking ≡ state.Locked → ⊥
-unfolding isLocked
-not-locked true h = subst (λ (s : State). T (not (isLocked s))) h tt
-not-locked false h = subst (λ (s : State). T (not (isLocked s))) h tt
-
 withheld-off : (ambiguous : Bool) → isNone (cond ambiguous reason.AmbiguousOffset reason.WeakAlignmentPeak) ≡ false
 unfolding isNone
 withheld-off true = refl
@@ -189,6 +220,11 @@ zero-coasts = tt
 
 now-coasts : (now last : RecordedMs) → T (finite (now .0)) → last ≡ now → T (mayCoast now last)
 now-coasts now last f e = subst (λ (x : Float). T (le x coastMostMs)) (sym (ap (λ (x : RecordedMs). now after x) e ∙ sub-self binary64 (now .0) f)) zero-coasts
+
+-- The place shown is the offset that is decided.
+place-shown : (t : RecordedMs) (o : Maybe) → offsetShown (estimateAt t o) ≡ o
+place-shown t maybe.Absent = refl
+place-shown t (maybe.Is o) = refl
 
 -- ---- a window that was searched, by the track a that its searches x left
 module _ (x : Searched) (now : RecordedMs) where
@@ -210,17 +246,25 @@ module _ (x : Searched) (now : RecordedMs) where
   reasoned e f gone = withheld-off (ambiguous (x .found))
   reasoned e f (set {l = l} h u) =
       cond-elim (λ (v : Verdict). isNone (v .reason) ≡ true) (mayCoast now l) _ _ (λ y. withheld-on (x .supported) ∙ e) (λ y. absurd (T-not (mayCoast now l) y (now-coasts now l f h)))
-  reasoned e f (kept {l = l}) =
+  reasoned e f (kept {l = l} h) =
       cond-elim (λ (v : Verdict). isNone (v .reason) ≡ false) (mayCoast now l) _ _ (λ y. withheld-on (x .supported) ∙ e) (λ y. withheld-off (ambiguous (x .found)))
 
-  -- A Locked snapshot is on the track.
-  track : (c : Configuration) (hop : Float) (w : Window) (ms : Milestones) (a : Hypothesis)
-      → TrackShown (publish c hop w (record { lock = x .lock; reached = x .reached; global = x .global; found = x .found; verdict = verdictOf a now x }) ms) now a
-  unfolding verdictOf publish
-  track c hop w ms hypothesis.Absent = free (not-locked (x .reached .confirmed))
-  track c hop w ms (hypothesis.Held offset first last r) =
-      cond-elim (λ (v : Verdict). TrackShown (publish c hop w (record { lock = x .lock; reached = x .reached; global = x .global; found = x .found; verdict = v }) ms) now (hypothesis.Held offset first last r)) (mayCoast now last) _ _
-      (λ h. fast (record { estimate = tt; coast = refl; within = h })) (λ h. free (not-locked (x .reached .confirmed)))
+  -- The snapshot is on the track, which may coast.
+  module _ (c : Configuration) (hop : Float) (w : Window) (ms : Milestones) where
+    abbrev shownWith : Verdict → Snapshot
+    shownWith v = publish c hop w (record { lock = x .lock; reached = x .reached; global = x .global; found = x .found; verdict = v }) ms
+
+    on-shown : (o : Float) (f l : RecordedMs) (r : Float) → T (mayCoast now l) → TrackShown (shownWith (verdictOf (hypothesis.Held o f l r) now x)) now x (hypothesis.Held o f l r)
+    unfolding verdictOf publish
+    on-shown o f l r h =
+        cond-elim (λ (v : Verdict). TrackShown (shownWith v) now x (hypothesis.Held o f l r)) (mayCoast now l) _ _
+        (λ t. on (record { state = refl; place = refl; coast = refl; within = t })) (λ t. absurd (T-not (mayCoast now l) t h))
+
+    shown-track : {lock : Bool} {before a : Hypothesis} {supported : Bool} → T (finite (now .0)) → Track now lock before a supported → TrackShown (shownWith (verdictOf a now x)) now x a
+    unfolding verdictOf publish
+    shown-track f gone = off (record { state = refl; place = place-shown (endpointOf w) (offTrack x .offset) })
+    shown-track f (set {o = o} {f = g} {l = l} {c = r} e u) = on-shown o g l r (now-coasts now l f e)
+    shown-track f (kept {o = o} {f = g} {l = l} {c = r} h) = on-shown o g l r h
 
 -- What the snapshot of a searched window shows.
 pub viewed : (c : Configuration) (hop : Float) (w : Window) (se : Searched) (l : Lock) (ms : Milestones) → T (finite (evidence hop w .0)) → (lock : Bool)
@@ -233,6 +277,6 @@ viewed c hop w se l ms f lock t =
       shown = found-shown c hop w (ready now se) ms;
       loud = loud se now a;
       reason = reasoned se now refl f t;
-      track = track se now c hop w ms a;
+      track = shown-track se now c hop w ms f t;
       usual = usual se now a;
     }

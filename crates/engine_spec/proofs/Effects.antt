@@ -11,14 +11,15 @@ use Rattle.numbers_spec.specs.Values.{Number}
 use Rattle.matcher_spec.specs.Centring.{contextFrames}
 use Rattle.matcher_spec.specs.Candidates.{marginOf}
 use Rattle.matcher_spec.specs.declared.types.Candidate.{Candidate}
+use Rattle.matcher_spec.specs.Features.{Features}
 use Rattle.matcher_spec.specs.Index.{Matcher}
 use Rattle.matcher_spec.specs.Search.{wholeSearch, localSearch}
 use Rattle.matcher_spec.specs.SoundSearch.{SoundResult}
-use Rattle.engine_spec.specs.Windows.{Window, indexed, query, endpointOf, evidence, _after_}
-use Rattle.engine_spec.specs.Tracking.{mayCoast}
+use Rattle.engine_spec.specs.Windows.{Window, indexed, query, endpointOf, evidence, _after_, samePlace}
+use Rattle.engine_spec.specs.Tracking.{mayCoast, tracked}
 use Rattle.engine_spec.specs.Locking.{Searched, passing, firstEvidence, startedOrCarried, heldOrDropped, confirms}
-use Rattle.engine_spec.specs.Publishing.{ofBest}
-use Rattle.engine_spec.specs.Chain.{bestOffset}
+use Rattle.engine_spec.specs.Publishing.{ofBest, offsetOf}
+use Rattle.engine_spec.specs.Chain.{bestOffset, offsetShown}
 use Rattle.engine_spec.specs.Cases.{isNone, interrupting, estimated, unreachable}
 use Rattle.engine_spec.specs.declared.types.Reached.{Reached}
 use Rattle.engine_spec.specs.Milestones.{afterPassing, afterChain}
@@ -47,16 +48,30 @@ pub record Sound (s : Settings) (m : Matcher) (w : Window) : Type 0 where
 abbrev pub trim : Settings → Float
 trim s = contextFrames (s .«hop_ms») ⊗ s .«hop_ms»
 
+-- ---- what is asked of the track that a window finds
+abbrev pub FiniteTrack : Hypothesis → Type 0
+FiniteTrack hypothesis.Absent = Unit
+FiniteTrack (hypothesis.Held offset first last correlation) = T (finite offset)
+
+-- The offsets that the end of a chain compares are finite: of the track after its local search, and of the best of a whole search.
+pub record Offsets (m : Matcher) (query : Features) (now : RecordedMs) (track : Hypothesis) : Type 0 where
+  pub track-finite : FiniteTrack (tracked m query now track .accepted)
+  pub best-finite : (c : Candidate) (l : List Candidate) → c ∷ l ≡ wholeSearch m query → T (finite (c .«offset_ms»))
+
 -- ---- what the searches do
 abbrev pub isHeld : Hypothesis → Bool
 isHeld hypothesis.Absent = false
 isHeld (hypothesis.Held offset first last correlation) = true
 
--- The accepted track before and after, and whether the window supports it: gone, set to this evidence at the end of a chain or from a track that was there, or as it was.
+-- The accepted track before and after, and whether the window supports it: gone, set to this evidence at the end of a chain or from a track that was there, or as it was, where it may coast.
 pub data Track (now : RecordedMs) (lock : Bool) : Hypothesis → Hypothesis → Bool → Type 0 where
   gone : {h : Hypothesis} → Track now lock h hypothesis.Absent false
   set : {h : Hypothesis} {o : Float} {f l : RecordedMs} {c : Float} → l ≡ now → T lock ⊎ T (isHeld h) → Track now lock h (hypothesis.Held o f l c) true
-  kept : {o : Float} {f l : RecordedMs} {c : Float} → Track now lock (hypothesis.Held o f l c) (hypothesis.Held o f l c) false
+  kept : {o : Float} {f l : RecordedMs} {c : Float} → T (mayCoast now l) → Track now lock (hypothesis.Held o f l c) (hypothesis.Held o f l c) false
+
+-- The end of a chain: a supported track with this evidence, the same place as the best of what was found.
+pub data Ended (now : RecordedMs) : Hypothesis → Bool → List Candidate → Type 0 where
+  ended : {o : Float} {f l : RecordedMs} {c : Float} {b : Candidate} {rest : List Candidate} → l ≡ now → T (samePlace o (b .«offset_ms»)) → Ended now (hypothesis.Held o f l c) true (b ∷ rest)
 
 -- Pending p and the milestones k before, s after, with a whole search or none, what it found, and whether a chain ends: nothing, a whole search that doesn't pass, or one that does.
 pub data Pend (m : Matcher) (hop : Float) (w : Window) (k : Reached) (p : Hypothesis) (s : Searched) : Bool → List Candidate → Bool → Type 0 where
@@ -70,6 +85,7 @@ pub data Pend (m : Matcher) (hop : Float) (w : Window) (k : Reached) (p : Hypoth
 pub record Effects (m : Matcher) (hop : Float) (w : Window) (k : Reached) (l : Lock) (s : Searched) : Type 0 where
   pub lock : Bool
   pub track : Track (evidence hop w) lock (l .accepted) (s .lock .accepted) (s .supported)
+  pub ended : T lock → Ended (evidence hop w) (s .lock .accepted) (s .supported) (s .found)
   pub pend : Pend m hop w k (l .pending) s (s .global) (s .found) lock
 
 -- ---- what a snapshot shows
@@ -87,23 +103,29 @@ pub record Shown (n : Snapshot) (global : Bool) (found : List Candidate) : Type 
   pub recent : n .diagnostics .spectral .«recent_correlation» ≡ ofBest (λ (c : Candidate). c .«recent_score») found
   pub best : bestOffset (n .diagnostics) ≡ bestOf found
 
--- Of a track whose evidence ended at `last`.
-pub record OnTrack (n : Snapshot) (now last : RecordedMs) : Type 0 where
-  pub estimate : T (estimated (n .estimate))
+-- On a track at this offset whose evidence ended at `last`; `final` says whether that milestone is there.
+pub record OnTrack (n : Snapshot) (now : RecordedMs) (final : Bool) (offset : Float) (last : RecordedMs) : Type 0 where
+  pub state : n .state ≡ cond final state.Locked state.Confirmed
+  pub place : offsetShown (n .estimate) ≡ maybe.Is offset
   pub coast : n .diagnostics .spectral .«coast_ms» ≡ atLeast zero⁺ (now after last)
   pub within : T (mayCoast now last)
 
--- A Locked snapshot is on the accepted track.
-pub data TrackShown (n : Snapshot) (now : RecordedMs) : Hypothesis → Type 0 where
-  free : {h : Hypothesis} → (n .state ≡ state.Locked → ⊥) → TrackShown n now h
-  fast : {o : Float} {f l : RecordedMs} {c : Float} → OnTrack n now l → TrackShown n now (hypothesis.Held o f l c)
+-- On none, after the searches s.
+pub record OffTrack (n : Snapshot) (s : Searched) : Type 0 where
+  pub state : n .state ≡ cond (s .reached .confirmed) state.Relocking state.Locking
+  pub place : offsetShown (n .estimate) ≡ cond (s .reached .confirmed) maybe.Absent (offsetOf (s .lock .pending))
+
+-- A snapshot is on the accepted track, where there is one.
+pub data TrackShown (n : Snapshot) (now : RecordedMs) (s : Searched) : Hypothesis → Type 0 where
+  off : OffTrack n s → TrackShown n now s hypothesis.Absent
+  on : {o : Float} {f l : RecordedMs} {c : Float} → OnTrack n now (s .reached .«final_lock») o l → TrackShown n now s (hypothesis.Held o f l c)
 
 -- All of a snapshot after the searches s.
 pub record View (hop : Float) (w : Window) (s : Searched) (n : Snapshot) : Type 0 where
   pub shown : Shown n (s .global) (s .found)
   pub loud : T (not (interrupting (n .state)))
   pub reason : isNone (n .«withhold_reason») ≡ s .supported
-  pub track : TrackShown n (evidence hop w) (s .lock .accepted)
+  pub track : TrackShown n (evidence hop w) s (s .lock .accepted)
   pub usual : (T (isHeld (s .lock .accepted)) → T (s .reached .«final_lock»)) → unreachable (n .state) ≡ false
 
 -- All of a snapshot of a window that could not be searched.
@@ -111,4 +133,5 @@ pub record Silence (n : Snapshot) : Type 0 where
   pub shown : Shown n false []
   pub quiet : T (interrupting (n .state))
   pub withheld : T (not (isNone (n .«withhold_reason»)))
+  pub placeless : T (estimated (n .estimate)) → ⊥
   pub usual : unreachable (n .state) ≡ false

@@ -13,6 +13,7 @@ use Rattle.numbers_spec.proofs.Sums.{sub-self, sub-not-negative}
 use Rattle.matcher_spec.specs.Centring.{contextFrames}
 use Rattle.engine_spec.specs.Thresholds.{coastMostMs, rereadMs}
 use Rattle.engine_spec.specs.Windows.{endpointOf, evidence, evidenceAt, _after_}
+use Rattle.engine_spec.specs.Locking.{Searched}
 use Rattle.engine_spec.specs.Chain.{windowAt, shownAt, spectralAt, when, jumpAt, interrupts, EndsChain, OnChain, Coasts}
 use Rattle.engine_spec.specs.Cases.{isNone, interrupting, estimated}
 use Rattle.engine_spec.specs.Lists.{Answered}
@@ -21,8 +22,9 @@ use Rattle.engine_spec.specs.declared.types.Hypothesis.{Hypothesis}
 use Rattle.engine_spec.specs.declared.types.Hypothesis.the-variants as hypothesis
 use Rattle.engine_spec.specs.declared.types.State.the-variants as state
 use Rattle.engine_spec.proofs.Tests.{not-or, not-or-l, below-or}
-use Rattle.engine_spec.proofs.Effects.{Track, gone, set, kept, OnTrack, TrackShown, free, fast}
+use Rattle.engine_spec.proofs.Effects.{Track, gone, set, kept, OnTrack, TrackShown, off, on}
 use Rattle.engine_spec.proofs.Links.{Timely, later}
+use Rattle.engine_spec.proofs.Places.{not-locked, shown-there}
 use Rattle.engine_spec.proofs.Elapsed.{coast-is}
 
 same-either-way : (b : Bool) (x : Float) → cond b x x ≡ x
@@ -95,7 +97,7 @@ module _ (hop : Float) (a : ℕ → Answered) where
         | inl b ↦ g .unbroken k x b
         | inr e ↦ subst (λ (m : ℕ). T (not (interrupts hop a m))) (sym e) (not-or (jumpAt hop a n) (interrupting (shownAt hop a n .state)) j q)
       ]))
-  track-step n lock old new supported q r d (still j g) (kept {l = l}) =
+  track-step n lock old new supported q r d (still j g) (kept {l = l} h) =
       on-track (follows-up n l g (not-or (jumpAt hop a n) (interrupting (shownAt hop a n .state)) j q) (subst (λ (b : Bool). T (not b)) (sym r) tt))
 
   -- ---- the coast
@@ -137,15 +139,15 @@ module _ (hop : Float) (a : ℕ → Answered) where
     pub locked : OnChain hop a n
     pub coast : Coasts hop a n
 
-  on-the-track : (n : ℕ) (last : RecordedMs) → T (finite (contextFrames hop ⊗ hop)) → Timely hop a (suc n) → Anew n → Follows (suc n) last → OnTrack (shownAt hop a n) (when hop a n) last → LockedWell n
-  on-the-track n last f tm w h o =
+  on-the-track : (n : ℕ) (final : Bool) (offset : Float) (last : RecordedMs) → T (finite (contextFrames hop ⊗ hop)) → Timely hop a (suc n) → Anew n → Follows (suc n) last → OnTrack (shownAt hop a n) (when hop a n) final offset last → LockedWell n
+  on-the-track n final offset last f tm w h o =
       let t = when hop a n in
       let t₀ = when hop a (h .from) in
       let below : T (le (t₀ .0) (t .0)) = later hop a (suc n) f tm (h .from) n (let x = h .from-order in omega arith) (le-refl (suc n)) (λ k x y. h .since k x (omega arith)) in
       let low : T (le zero⁺ (t after t₀)) = sub-not-negative binary64 (t .0) (t₀ .0) (tm .evidence n (le-refl (suc n))) (tm .evidence (h .from) (h .from-order)) below in
       let is : spectralAt hop a n .«coast_ms» ≡ t after t₀ = o .coast ∙ ap (λ (x : RecordedMs). atLeast zero⁺ (t after x)) (h .last-is) ∙ since-support n f tm w (h .from) (h .from-order) (h .since) in
       record {
-        estimate = o .estimate;
+        estimate = shown-there (shownAt hop a n .estimate) (o .place);
         locked = record { chain = h .chain; order = let x = h .order in omega arith; ends = h .ends; unbroken = λ k x y. h .unbroken k x (omega arith) };
         coast = record {
           from = h .from;
@@ -156,6 +158,7 @@ module _ (hop : Float) (a : ℕ → Answered) where
         };
       }
 
-  pub locked-well : (n : ℕ) (accepted : Hypothesis) → T (finite (contextFrames hop ⊗ hop)) → Timely hop a (suc n) → Anew n → Accepted (suc n) accepted → TrackShown (shownAt hop a n) (when hop a n) accepted → shownAt hop a n .state ≡ state.Locked → LockedWell n
-  locked-well n accepted f tm w g (free other) e = absurd (other e)
-  locked-well n accepted f tm w (on-track h) (fast {l = l} o) e = on-the-track n l f tm w h o
+  pub locked-well : (n : ℕ) (x : Searched) (accepted : Hypothesis) → T (finite (contextFrames hop ⊗ hop)) → Timely hop a (suc n) → Anew n → Accepted (suc n) accepted
+      → TrackShown (shownAt hop a n) (when hop a n) x accepted → shownAt hop a n .state ≡ state.Locked → LockedWell n
+  locked-well n x accepted f tm w g (off t) e = absurd (not-locked (x .reached .confirmed) (sym (t .state) ∙ e))
+  locked-well n x accepted f tm w (on-track h) (on {o = o} {l = l} t) e = on-the-track n (x .reached .«final_lock») o l f tm w h t

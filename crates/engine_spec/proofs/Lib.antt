@@ -5,6 +5,7 @@ pub mod Answers
 pub mod Links
 pub mod Passing
 pub mod Pending
+pub mod Places
 pub mod Stamps
 pub mod Elapsed
 pub mod Following

@@ -21,8 +21,8 @@ use Rattle.engine_spec.specs.Cases.{isComputed, isRefused, unreachable}
 use Rattle.engine_spec.proofs.Standing.{Inv, start, Next, next}
 use Rattle.engine_spec.proofs.Handed.{near-endpoint, clock-finite}
 use Rattle.engine_spec.proofs.Openings.{Opening, engine-is, hop-is, configuration-valid, settings-valid, trim-finite, fair, sound, decision-is}
-use Rattle.engine_spec.proofs.Validity.{safe-next}
-use Rattle.engine_spec.proofs.Submissions.{clash, computedBy, isAt, Grounds, New, refusal, again, computed, good-fresh, good-after, refusal-is, answeredBy, Steps, stop, step, steps, told, Trace, end, more, trace}
+use Rattle.engine_spec.proofs.Validity.{safe-next, offsets-finite}
+use Rattle.engine_spec.proofs.Submissions.{clash, computedBy, isAt, Good, Grounds, New, refusal, again, computed, good-fresh, good-after, refusal-is, answeredBy, Steps, stop, step, steps, told, Trace, end, more, trace}
 use Rattle.engine_spec.proofs.Struck.{alike, alike-self}
 use Rattle.engine_spec.specs.declared.types.Configuration.{Configuration}
 use Rattle.engine_spec.specs.declared.types.Settings.{Settings}
@@ -40,6 +40,7 @@ grounds c hop reference x o =
       clocked = clock-finite s;
       fair = fair o;
       decision = decision-is o;
+      offsets = λ e i good h q. offsets-finite s (matcherOfReference hop reference) e i (good .safe) (good .settings) (sound o i h q) (near-endpoint s i q);
       safe = λ e i good h q. safe-next s (matcherOfReference hop reference) e i (good .safe) (good .settings) (sound o i h q) (near-endpoint s i q) (clock-finite s i q);
     }
 
@@ -50,16 +51,16 @@ pub record Relied (s : Settings) (m : Matcher) (a : ℕ → Answered) (n : ℕ) 
   pub usual : unreachable (a n .snapshot .state) ≡ false
 
 module _ (s : Settings) (m : Matcher) (g : Grounds s m) (a : ℕ → Answered) where
-  next-of : (n : ℕ) (e : Engine) (i : Submission) → Inv s m a n e → New s m e i → a n ≡ answeredBy i (computedBy s m e i) → Next s m a n (computedBy s m e i .engine)
-  next-of n e i inv w q =
-      next s m a n e i (g .trimmed) inv (g .fair i (w .handed) (w .answered)) (ap (λ (x : Answered). x .submission .window) q) (w .anew) (ap (λ (x : Answered). x .snapshot) q)
+  next-of : (n : ℕ) (e : Engine) (i : Submission) → Good s e → Inv s m a n e → New s m e i → a n ≡ answeredBy i (computedBy s m e i) → Next s m a n (computedBy s m e i .engine)
+  next-of n e i good inv w q =
+      next s m a n e i (g .trimmed) inv (g .fair i (w .handed) (w .answered)) (ap (λ (x : Answered). x .submission .window) q) (w .anew) (g .offsets e i good (w .handed) (w .answered)) (ap (λ (x : Answered). x .snapshot) q)
 
   -- from the answer n on, which the state e gives
   along : (n : ℕ) (e : Engine) (A : List Answered) → Trace s m e A → ((k : ℕ) → k < length A → a (n + k) ≡ getD A k unanswered) → Inv s m a n e → (k : ℕ) → k < length A → Relied s m a (n + k)
   along n e A end h inv k l = absurd (lt-irrefl 0 (omega arith))
   along n e A (more {i = i} {A = B} good w rest) h inv k l =
       let here : a n ≡ answeredBy i (computedBy s m e i) = subst (λ (j : ℕ). a j ≡ answeredBy i (computedBy s m e i)) (plus-zero n) (h 0 (omega arith)) in
-      let x : Next s m a n (computedBy s m e i .engine) = next-of n e i inv w here in
+      let x : Next s m a n (computedBy s m e i .engine) = next-of n e i good inv w here in
       go k l (record { trusted = x .trusted; usual = x .usual })
       (λ p v. along (suc n) (computedBy s m e i .engine) B rest (λ j u. subst (λ (p : ℕ). a p ≡ getD B j unanswered) (plus-suc n j) (h (suc j) (omega arith))) (x .inv) p v)
     where

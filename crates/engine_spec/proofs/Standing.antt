@@ -20,9 +20,9 @@ use Rattle.engine_spec.specs.Readiness.{readiness, averageEnergy, active
 use Rattle.engine_spec.specs.Locking.{Searched, searched}
 use Rattle.engine_spec.specs.Publishing.{Decision, ready, unready, decide, publish}
 use Rattle.engine_spec.specs.Submitting.{lockFrom, computedFrom}
-use Rattle.engine_spec.specs.Chain.{windowAt, shownAt, wholeAt, Passes, jumpAt, EndsChain}
+use Rattle.engine_spec.specs.Chain.{windowAt, shownAt, wholeAt, Passes, jumpAt, EndsChain, Ending, Coasting, Placed}
 use Rattle.engine_spec.specs.Guarantee.{Shows, Trusted}
-use Rattle.engine_spec.specs.Cases.{isNone, isThere, interrupting, unreachable}
+use Rattle.engine_spec.specs.Cases.{isNone, isThere, estimated, interrupting, unreachable}
 use Rattle.engine_spec.specs.declared.types.Reached.{Reached}
 use Rattle.engine_spec.specs.Milestones.{milestonesShown, reachedBy, stamp}
 use Rattle.engine_spec.specs.Lists.{Answered}
@@ -43,12 +43,13 @@ use Rattle.engine_spec.specs.declared.types.State.{State}
 use Rattle.engine_spec.specs.declared.types.State.the-variants as state
 use Rattle.engine_spec.specs.declared.types.WithholdReason.{WithholdReason}
 use Rattle.engine_spec.specs.declared.types.WithholdReason.the-variants as reason
-use Rattle.engine_spec.proofs.Tests.{cond-elim, not-or-l, or-split, or-l, or-r, below-or}
-use Rattle.engine_spec.proofs.Effects.{Fair, trim, isHeld, Pend, same, weak, pass, Effects, View, Silence}
+use Rattle.engine_spec.proofs.Tests.{cond-elim, not-or-l, or-split, or-l, or-r, below-or, not-T-is}
+use Rattle.engine_spec.proofs.Effects.{Fair, Offsets, trim, isHeld, Pend, same, weak, pass, Effects, View, Silence}
 use Rattle.engine_spec.proofs.Answers.{effects, viewed, silenced, shows-whole}
 use Rattle.engine_spec.proofs.Passing.{passes-is}
 use Rattle.engine_spec.proofs.Links.{open-down, Timely, timely-up}
 use Rattle.engine_spec.proofs.Pending.{NumberHalves, Pending, idle, running, Ready, none-open, going, pend-step}
+use Rattle.engine_spec.proofs.Places.{Leads, nowhere, leads-next, ending-of, coasting-of, placed-of}
 use Rattle.engine_spec.proofs.Stamps.{Marked, marked, or-false, final-after}
 use Rattle.engine_spec.proofs.Following.{Accepted, no-track, on-track, Tracked, no-more, still, track-step, Anew, LockedWell, locked-well}
 use Rattle.engine_spec.proofs.ShownCandidates.{apart-shown}
@@ -121,6 +122,7 @@ module _ (s : Settings) (m : Matcher) (a : ℕ → Answered) where
     pub timely : Timely (s .«hop_ms») a n
     pub pending : Pending (s .«hop_ms») a n (e .lock .pending)
     pub accepted : Accepted (s .«hop_ms») a n (e .lock .accepted)
+    pub leads : Leads (s .«hop_ms») a n (e .lock .accepted)
     pub there-if : T (isThere (e .milestones .«final_ms»)) → (j : ℕ) × (j < n) × EndsChain (s .«hop_ms») a j
     pub only-if : (j : ℕ) → j < n → EndsChain (s .«hop_ms») a j → T (isThere (e .milestones .«final_ms»))
     pub lasting : (j : ℕ) → j < n → T (isThere (shownAt (s .«hop_ms») a j .«final_lock_elapsed_ms»)) → e .milestones .«final_ms» ≡ shownAt (s .«hop_ms») a j .«final_lock_elapsed_ms»
@@ -134,6 +136,7 @@ module _ (s : Settings) (m : Matcher) (a : ℕ → Answered) where
     timely = record { endpoint = λ i h. absurd (not-suc-le-zero h); evidence = λ i h. absurd (not-suc-le-zero h) };
     pending = idle (λ i o. not-suc-le-zero (o .order));
     accepted = no-track;
+    leads = nowhere;
     there-if = λ t. absurd t;
     only-if = λ j h. absurd (not-suc-le-zero h);
     lasting = λ j h. absurd (not-suc-le-zero h);
@@ -147,7 +150,11 @@ module _ (s : Settings) (m : Matcher) (a : ℕ → Answered) where
     lock-if : EndsChain hop a n → T lock
     pending : Pending hop a (suc n) (d .lock .pending)
     accepted : Accepted hop a (suc n) (d .lock .accepted)
+    leads : (T (isHeld (d .lock .accepted)) → T (d .reached .«final_lock»)) → Leads hop a (suc n) (d .lock .accepted)
     locked : shownAt hop a n .state ≡ state.Locked → LockedWell hop a n
+    ending : EndsChain hop a n → Ending hop a n
+    coasting : shownAt hop a n .state ≡ state.Locked → T (not (isNone (shownAt hop a n .«withhold_reason»))) → Coasting hop a n
+    placed : (T (isHeld (d .lock .accepted)) → T (d .reached .«final_lock»)) → T (estimated (shownAt hop a n .estimate)) → Placed hop a n
     searched : T (wholeAt hop a n) → Shows hop (w n) (wholeSearch m (query (w n))) (shownAt hop a n)
     usual : (T (isHeld (d .lock .accepted)) → T (d .reached .«final_lock»)) → unreachable (shownAt hop a n .state) ≡ false
 
@@ -166,17 +173,21 @@ module _ (s : Settings) (m : Matcher) (a : ℕ → Answered) where
           | inr e ↦ np (subst (λ (k : ℕ). Passes hop a k) e (o .first))
         ]);
         accepted = no-track;
+        leads = λ _. nowhere;
         locked = λ e. absurd (interrupting-not-locked (shownAt hop a n .state) (q .quiet) e);
+        ending = λ c. absurd (np (c .1 .last));
+        coasting = λ e _. absurd (interrupting-not-locked (shownAt hop a n .state) (q .quiet) e);
+        placed = λ _ t. absurd (q .placeless t);
         searched = λ t. absurd (subst (λ (b : Bool). T b) (q .shown .whole) t);
         usual = λ _. q .usual;
       }
 
   -- it was searched
-  ready-made : (granted : Bool) (c : Configuration) (n : ℕ) (k : Reached) (l : Lock) (ms : Milestones) → T (finite (trim s)) → NumberHalves m (w n) → Timely hop a (suc n) → Anew hop a n → Ready hop a n (l .pending) → Tracked hop a n (l .accepted)
+  ready-made : (granted : Bool) (c : Configuration) (n : ℕ) (k : Reached) (l : Lock) (ms : Milestones) → T (finite (trim s)) → NumberHalves m (w n) → Timely hop a (suc n) → Anew hop a n → Ready hop a n (l .pending) → Tracked hop a n (l .accepted) → Leads hop a n (l .accepted) → Offsets m (query (w n)) (evidence hop (w n)) (l .accepted)
       → let d = ready (evidence hop (w n)) (searched granted m hop (w n) k l) in shownAt hop a n ≡ publish c hop (w n) d ms → Made n k d
-  ready-made granted c n k l ms f nh tm new rd tr v =
+  ready-made granted c n k l ms f nh tm new rd tr ld O v =
       let se = searched granted m hop (w n) k l in
-      let x : Effects m hop (w n) k l se = effects granted m hop (w n) k l in
+      let x : Effects m hop (w n) k l se = effects granted m hop (w n) k l O in
       let y : View hop (w n) se (shownAt hop a n) = subst (λ (z : Snapshot). View hop (w n) se z) (sym v) (viewed c hop (w n) se l ms (tm .evidence n (le-refl (suc n))) (x .lock) (x .track)) in
       let o = pend-step hop a n (y .loud) m k (l .pending) se (se .global) (se .found) (x .lock) f nh tm rd (y .shown) (x .pend) in
       let acc : Accepted hop a (suc n) (se .lock .accepted) = track-step hop a n (x .lock) (l .accepted) (se .lock .accepted) (se .supported) (y .loud) (y .reason) (o .ends) tr (x .track) in
@@ -187,7 +198,14 @@ module _ (s : Settings) (m : Matcher) (a : ℕ → Answered) where
         lock-if = o .lock-if;
         pending = o .pending;
         accepted = acc;
-        locked = λ e. locked-well hop a n (se .lock .accepted) f tm new acc (y .track) e;
+        leads = λ h. leads-next hop a n se (se .lock .accepted) h (y .track);
+        locked = λ e. locked-well hop a n se (se .lock .accepted) f tm new acc (y .track) e;
+        ending = λ c.
+            let t = o .lock-if c in
+            let final : T (se .reached .«final_lock») = subst T (sym (final-after m hop (w n) k (l .pending) se (se .global) (se .found) (x .lock) (x .pend))) (or-r (k .«final_lock») (x .lock) t) in
+            ending-of hop a n se (se .lock .accepted) (se .supported) (se .found) (tm .evidence n (le-refl (suc n))) final (y .reason) (y .shown .best) (x .ended t) (y .track);
+        coasting = λ e h. coasting-of hop a n se (l .accepted) (se .lock .accepted) (se .supported) (sym (y .reason) ∙ not-T-is (isNone (shownAt hop a n .«withhold_reason»)) h) (x .track) ld (y .track) e;
+        placed = λ h t. placed-of hop a n se (se .lock .accepted) h (o .pending) (y .track) t;
         searched = λ t.
             let whole : T (se .global) = subst (λ (b : Bool). T b) (y .shown .whole) t in
             subst (λ (found : List Candidate). Shows hop (w n) found (shownAt hop a n)) (found-is m hop (w n) k (l .pending) se (se .global) (se .found) (x .lock) (x .pend) whole)
@@ -200,13 +218,13 @@ module _ (s : Settings) (m : Matcher) (a : ℕ → Answered) where
   anew zero t r = tt
   anew (suc n) t r = goes-on s (endpointOf (w n)) (w (suc n)) t r
 
-  decided-made : (granted : Bool) (c : Configuration) (n : ℕ) (k : Reached) (l : Lock) (ms : Milestones) → T (finite (trim s)) → Fair s m (w n) → Timely hop a (suc n) → rereads s (prevEnd n) (w n) ≡ false → Ready hop a n (l .pending) → Tracked hop a n (l .accepted)
+  decided-made : (granted : Bool) (c : Configuration) (n : ℕ) (k : Reached) (l : Lock) (ms : Milestones) → T (finite (trim s)) → Fair s m (w n) → Timely hop a (suc n) → rereads s (prevEnd n) (w n) ≡ false → Ready hop a n (l .pending) → Tracked hop a n (l .accepted) → Leads hop a n (l .accepted) → (T (indexed s) → Offsets m (query (w n)) (evidence hop (w n)) (l .accepted))
       → shownAt hop a n ≡ publish c hop (w n) (decide granted c s m (w n) k l) ms → Made n k (decide granted c s m (w n) k l)
   unfolding decide
-  decided-made granted c n k l ms f fair tm nr rd tr =
+  decided-made granted c n k l ms f fair tm nr rd tr ld O =
       let r = readiness c s (k .confirmed) (w n) in
       cond-elim (λ (d : Decision). shownAt hop a n ≡ publish c hop (w n) d ms → Made n k d) (isNone r) (ready (evidence hop (w n)) (searched granted m hop (w n) k l)) (unready s k l r)
-      (λ t v. let x = ready-window c s (k .confirmed) (w n) t in ready-made granted c n k l ms f (fair .halves (x .0)) tm (anew n (x .1) nr) rd tr v)
+      (λ t v. let x = ready-window c s (k .confirmed) (w n) t in ready-made granted c n k l ms f (fair .halves (x .0)) tm (anew n (x .1) nr) rd tr ld (O (x .0)) v)
       (λ t v. interrupting-made c n k l r ms t v)
 
   -- ---- what the answer before left, a jump taken account of
@@ -225,12 +243,12 @@ module _ (s : Settings) (m : Matcher) (a : ℕ → Answered) where
   accepted-tracked n p j no-track = no-more
   accepted-tracked n p j (on-track h) = still j h
 
-  lock-ready : (n : ℕ) (e : Engine) → Inv n e → let l = lockFrom e (w n) in Ready hop a n (l .pending) × Tracked hop a n (l .accepted)
+  lock-ready : (n : ℕ) (e : Engine) → Inv n e → let l = lockFrom e (w n) in Ready hop a n (l .pending) × Tracked hop a n (l .accepted) × Leads hop a n (l .accepted)
   lock-ready n e inv =
       let is = jump-is n e inv in
-      cond-elim (λ (l : Lock). Ready hop a n (l .pending) × Tracked hop a n (l .accepted)) (jumps (e .settings) (e .last .«endpoint_ms») (w n)) noLock (e .lock)
-      (λ t. (jumped-ready n (subst (λ (b : Bool). T b) is t), no-more))
-      (λ t. let j = subst (λ (b : Bool). T (not b)) is t in (pending-ready n (e .lock .pending) j (inv .pending), accepted-tracked n (e .lock .accepted) j (inv .accepted)))
+      cond-elim (λ (l : Lock). Ready hop a n (l .pending) × Tracked hop a n (l .accepted) × Leads hop a n (l .accepted)) (jumps (e .settings) (e .last .«endpoint_ms») (w n)) noLock (e .lock)
+      (λ t. (jumped-ready n (subst (λ (b : Bool). T b) is t), no-more, nowhere))
+      (λ t. let j = subst (λ (b : Bool). T (not b)) is t in (pending-ready n (e .lock .pending) j (inv .pending), accepted-tracked n (e .lock .accepted) j (inv .accepted), inv .leads))
 
   -- ---- the step
   pub record Next (n : ℕ) (e' : Engine) : Type 0 where
@@ -249,6 +267,7 @@ module _ (s : Settings) (m : Matcher) (a : ℕ → Answered) where
   made-next : (n : ℕ) (e e' : Engine) (d : Decision) (clock : ClockMs) → Timely hop a (suc n) → Inv n e → Made n (reachedBy (e .milestones)) d
       → e' .settings ≡ s → e' .last .«endpoint_ms» ≡ prevEnd (suc n) → e' .lock ≡ d .lock → e' .milestones ≡ stamp (e .milestones) (d .reached) clock → milestonesShown (shownAt hop a n) ≡ e' .milestones → Next n e'
   made-next n e e' d clock tm inv x settings-is endpoint-is lock-is milestones-is shown-is =
+      let final : T (isHeld (d .lock .accepted)) → T (d .reached .«final_lock») = held-final n (reachedBy (e .milestones)) d (d .lock .accepted) (inv .only-if) x (x .accepted) in
       let before = e .milestones .«final_ms» in
       let now = e' .milestones .«final_ms» in
       let shown : ℕ → Milestone = λ j. shownAt hop a j .«final_lock_elapsed_ms» in
@@ -274,6 +293,7 @@ module _ (s : Settings) (m : Matcher) (a : ℕ → Answered) where
           timely = tm;
           pending = subst (λ (l : Lock). Pending hop a (suc n) (l .pending)) (sym lock-is) (x .pending);
           accepted = subst (λ (l : Lock). Accepted hop a (suc n) (l .accepted)) (sym lock-is) (x .accepted);
+          leads = subst (λ (l : Lock). Leads hop a (suc n) (l .accepted)) (sym lock-is) (x .leads final);
           there-if = there-if;
           only-if = only-if;
           lasting = lasting;
@@ -288,10 +308,13 @@ module _ (s : Settings) (m : Matcher) (a : ℕ → Answered) where
           estimate = λ e. x .locked e .estimate;
           locked = λ e. x .locked e .locked;
           coast = λ e. x .locked e .coast;
+          ending = x .ending;
+          coasting = x .coasting;
+          placed = x .placed final;
           searched = x .searched;
           apart = λ t j k u v. apart-shown hop (w n) (wholeSearch m (query (w n))) (shownAt hop a n) (x .searched t) (whole-apart m (query (w n))) j k u v;
         };
-        usual = x .usual (held-final n (reachedBy (e .milestones)) d (d .lock .accepted) (inv .only-if) x (x .accepted));
+        usual = x .usual final;
       }
 
   abbrev decided : Engine → Window → Decision
@@ -299,24 +322,27 @@ module _ (s : Settings) (m : Matcher) (a : ℕ → Answered) where
 
   -- the step, of the window as it stands among the answers
   next-of : (n : ℕ) (e : Engine) (clock : ClockMs) → T (finite (trim s)) → Inv n e → Fair s m (w n) → rereads s (e .last .«endpoint_ms») (w n) ≡ false
+      → (T (indexed s) → Offsets m (query (w n)) (evidence hop (w n)) (lockFrom e (w n) .accepted))
       → let c = computedFrom e (w n) clock (decided e (w n)) in shownAt hop a n ≡ c .snapshot → Next n (c .engine)
   unfolding computedFrom
-  next-of n e clock f inv fair nr v =
+  next-of n e clock f inv fair nr O v =
       let d = decided e (w n) in
       let ms = stamp (e .milestones) (d .reached) clock in
       let tm = timely-up hop a n (inv .timely) (fair .endpoint) (fair .evidence) in
       let r = lock-ready n e inv in
       let v' : shownAt hop a n ≡ publish (e .configuration) hop (w n) d ms = v ∙ ap (λ (z : Settings). publish (e .configuration) (z .«hop_ms») (w n) d ms) (inv .settings) in
-      let x = decided-made true (e .configuration) n (reachedBy (e .milestones)) (lockFrom e (w n)) ms f fair tm (ap (λ (z : Endpoint). rereads s z (w n)) (sym (inv .endpoint)) ∙ nr) (r .0) (r .1) v' in
+      let x = decided-made true (e .configuration) n (reachedBy (e .milestones)) (lockFrom e (w n)) ms f fair tm (ap (λ (z : Endpoint). rereads s z (w n)) (sym (inv .endpoint)) ∙ nr) (r .0) (r .1) (r .2) O v' in
       made-next n e (computedFrom e (w n) clock d .engine) d clock tm inv x (inv .settings) refl refl refl
       (ap milestonesShown v' ∙ shown-milestones (e .configuration) hop (w n) d ms)
 
   -- The answer n, computed by the state e from the submission i, which is not a re-reading.
   pub next : (n : ℕ) (e : Engine) (i : Submission) → T (finite (trim s)) → Inv n e → Fair s m (i .window) → a n .submission .window ≡ i .window
       → rereads s (e .last .«endpoint_ms») (i .window) ≡ false
+      → (T (indexed s) → Offsets m (query (i .window)) (evidence (s .«hop_ms») (i .window)) (lockFrom e (i .window) .accepted))
       → let x = computedFrom e (i .window) (i .clock) (decide true (e .configuration) s m (i .window) (reachedBy (e .milestones)) (lockFrom e (i .window))) in
       a n .snapshot ≡ x .snapshot → Next n (x .engine)
-  next n e i f inv fair q nr v =
+  next n e i f inv fair q nr O v =
       subst (λ (x : Window). Fair s m x → rereads s (e .last .«endpoint_ms») x ≡ false
+      → (T (indexed s) → Offsets m (query x) (evidence hop x) (lockFrom e x .accepted))
       → a n .snapshot ≡ computedFrom e x (i .clock) (decided e x) .snapshot → Next n (computedFrom e x (i .clock) (decided e x) .engine))
-      q (λ g h u. next-of n e (i .clock) f inv g h u) fair nr v
+      q (λ g h o u. next-of n e (i .clock) f inv g h o u) fair nr O v

@@ -5,7 +5,7 @@ use mathlib.Core.Path.{_≡_, refl, sym, ap, ap₂, _∙_, subst}
 use lib.Dec.{T}
 use lib.Ieee.Scale.{finite}
 use Rattle.matcher_spec.specs.Index.{Matcher}
-use Rattle.engine_spec.specs.Windows.{Window, endpointOf, rereads, Submission}
+use Rattle.engine_spec.specs.Windows.{Window, indexed, query, endpointOf, evidence, rereads, Submission}
 use Rattle.engine_spec.specs.Refusals.{refuses, validConfiguration, validSettings, handedRefusal, submissionRefusal}
 use Rattle.engine_spec.specs.Opening.{freshEngine}
 use Rattle.engine_spec.specs.Publishing.{Decision, decide}
@@ -14,7 +14,7 @@ use Rattle.engine_spec.specs.Guarantee.{Handed, AllHanded, nothing, next
 use Rattle.engine_spec.specs.Milestones.{reachedBy}
 use Rattle.engine_spec.specs.Lists.{Answered, answersTo, engineAfter, remaining}
 use Rattle.engine_spec.specs.Cases.{isComputed}
-use Rattle.engine_spec.proofs.Effects.{Fair, trim}
+use Rattle.engine_spec.proofs.Effects.{Fair, Offsets, trim}
 use Rattle.engine_spec.proofs.Validity.{Safe, safe-valid, safe-fresh}
 use Rattle.engine_spec.specs.declared.types.Configuration.{Configuration}
 use Rattle.engine_spec.specs.declared.types.Settings.{Settings}
@@ -54,6 +54,7 @@ pub record Grounds (s : Settings) (m : Matcher) : Type 0 where
   pub clocked : (i : Submission) → refuses (handedRefusal s i) ≡ false → T (finite (i .clock .0))
   pub fair : (i : Submission) → Handed s m i → refuses (handedRefusal s i) ≡ false → Fair s m (i .window)
   pub decision : (e : Engine) (i : Submission) → e .settings ≡ s → Handed s m i → refuses (handedRefusal s i) ≡ false → decisionOn e i ≡ decisionBy s m e i
+  pub offsets : (e : Engine) (i : Submission) → Good s e → Handed s m i → refuses (handedRefusal s i) ≡ false → T (indexed s) → Offsets m (query (i .window)) (evidence (s .«hop_ms») (i .window)) (lockFrom e (i .window) .accepted)
   pub safe : (e : Engine) (i : Submission) → Good s e → Handed s m i → refuses (handedRefusal s i) ≡ false → Safe (computedBy s m e i .engine)
 
 pub good-fresh : (c : Configuration) (s : Settings) (m : Matcher) → Grounds s m → validConfiguration c ≡ true → Good s (freshEngine c s)

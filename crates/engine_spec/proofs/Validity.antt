@@ -46,7 +46,7 @@ use Rattle.engine_spec.specs.declared.types.Hypothesis.{Hypothesis}
 use Rattle.engine_spec.specs.declared.types.Hypothesis.the-variants as hypothesis
 use Rattle.engine_spec.specs.declared.types.WithholdReason.{WithholdReason}
 use Rattle.engine_spec.specs.declared.types.WithholdReason.the-variants as reason
-use Rattle.engine_spec.proofs.Effects.{Sound}
+use Rattle.engine_spec.proofs.Effects.{Sound, FiniteTrack, Offsets}
 use Rattle.engine_spec.proofs.Tests.{cond-elim, and-l, and-r, and-i, or-l, not-not, T-is}
 use Rattle.engine_spec.proofs.EvidenceBound.{bounded, in-range, at-most-wider, farthest-finite, track-most-finite, evidence-bound}
 use Rattle.engine_spec.proofs.MovedBound.{foundMost, placeMost, moved-at-most, since-finite, since-not-negative}
@@ -143,6 +143,10 @@ since-bound = tt
 
 place-finite : (x : Float) → AtMost placeMost x → T (finite x)
 place-finite x h = at-most-finite placeMost x tt h
+
+track-finite : (h : Hypothesis) → Bounded h → FiniteTrack h
+track-finite hypothesis.Absent h = tt
+track-finite (hypothesis.Held o f l c) (held O F L C) = place-finite o O
 
 -- so is the time between two such
 after-finite : (now last : RecordedMs) → AtMost trackMost (now .0) → AtMost trackMost (last .0) → T (finite (now after last))
@@ -336,11 +340,22 @@ hop-valid s h = T-is _ (and-l (hopInRange (s .«hop_ms»)) _ (subst T (sym h) tt
 lock-from : (e : Engine) (w : Window) → Safe e → LockBounds (lockFrom e w)
 lock-from e w k = cond-elim LockBounds (jumps (e .settings) (e .last .«endpoint_ms») w) noLock (e .lock) (λ t. no-lock) (λ t. k .lock)
 
-pub safe-next : (s : Settings) (m : Matcher) (e : Engine) (i : Submission) → Safe e → e .settings ≡ s → Sound s m (i .window) → near (endpointOf (i .window) .0) ≡ true → T (finite (i .clock .0))
-    → let d = decide true (e .configuration) s m (i .window) (reachedBy (e .milestones)) (lockFrom e (i .window)) in Safe (computedFrom e (i .window) (i .clock) d .engine)
-safe-next s m e i k q sound n c =
-    let w = i .window in
-    let hop = hop-valid s (subst (λ (x : Settings). validSettings x ≡ true) q (k .settings)) in
-    let N = bounded trackMost (evidence (s .«hop_ms») w .0) (evidence-bound (s .«hop_ms») w hop n .1) in
-    let t : T (near (endpointOf w .0)) = subst T (sym n) tt in
-    computed-safe e w (i .clock) _ k t c (decide-well true (e .configuration) s m w (reachedBy (e .milestones)) (lockFrom e w) N t (lock-from e w k) sound)
+module _ (s : Settings) (m : Matcher) (e : Engine) (i : Submission) (k : Safe e) (same : e .settings ≡ s) (sound : Sound s m (i .window)) (n : near (endpointOf (i .window) .0) ≡ true) where
+  abbrev w : Window
+  w = i .window
+
+  evidence-most : AtMost trackMost (evidence (s .«hop_ms») w .0)
+  evidence-most = bounded trackMost (evidence (s .«hop_ms») w .0) (evidence-bound (s .«hop_ms») w (hop-valid s (subst (λ (x : Settings). validSettings x ≡ true) same (k .settings))) n .1)
+
+  near-end : T (near (endpointOf w .0))
+  near-end = subst T (sym n) tt
+
+  pub safe-next : T (finite (i .clock .0)) → let d = decide true (e .configuration) s m (i .window) (reachedBy (e .milestones)) (lockFrom e (i .window)) in Safe (computedFrom e (i .window) (i .clock) d .engine)
+  safe-next c = computed-safe e w (i .clock) _ k near-end c (decide-well true (e .configuration) s m w (reachedBy (e .milestones)) (lockFrom e w) evidence-most near-end (lock-from e w k) sound)
+
+  -- The offsets that the end of a chain compares are finite.
+  pub offsets-finite : T (indexed s) → Offsets m (query (i .window)) (evidence (s .«hop_ms») (i .window)) (lockFrom e (i .window) .accepted)
+  offsets-finite x = record {
+    track-finite = track-finite _ (tracked-well m (s .«hop_ms») w evidence-most near-end (lockFrom e w .accepted) (lock-from e w k .accepted) (sound .near x) .accepted);
+    best-finite = λ c l f. at-most-finite foundMost (c .«offset_ms») tt (best-of c l (subst SoundResult (sym f) (sound .whole x)) .offset);
+  }

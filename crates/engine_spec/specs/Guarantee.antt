@@ -149,6 +149,12 @@ module _ (hop : Float) (m : Matcher) (a : ℕ → Answered) where
     pub locked : shownAt hop a i .state ≡ state.Locked → OnChain hop a i
     -- its coast is its evidence time less that of the last answer, itself counted, without a withhold reason; from 0 to 1,500
     pub coast : shownAt hop a i .state ≡ state.Locked → Coasts hop a i
+    -- an answer that ends a chain is Locked, with no withhold reason and coast 0, at most 80 from the best offset that it shows
+    pub ending : EndsChain hop a i → Ending hop a i
+    -- a Locked answer with a withhold reason shows the place of the answer before it, which is Locked too
+    pub coasting : shownAt hop a i .state ≡ state.Locked → T (not (isNone (shownAt hop a i .«withhold_reason»))) → Coasting hop a i
+    -- a place is shown only where Locked, or Locking: there it is the best offset of the last passing answer up to it, itself counted
+    pub placed : T (estimated (shownAt hop a i .estimate)) → Placed hop a i
     -- a whole search shown is the matcher's, of reference, hop and window alone, in all fields
     pub searched : T (wholeAt hop a i) → Shows hop (windowAt hop a i) (wholeSearch m (query (windowAt hop a i))) (shownAt hop a i)
     -- no two of its candidates lie under 750 apart
