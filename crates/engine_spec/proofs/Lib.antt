@@ -19,6 +19,8 @@ pub mod Openings
 pub mod Submissions
 pub mod Struck
 pub mod Run
+pub mod AnyState
+pub mod Latest
 pub mod Contract
 pub mod Figures
 pub mod Constants

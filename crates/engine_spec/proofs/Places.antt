@@ -37,7 +37,7 @@ not-locked true h = subst (λ (s : State). T (not (isLocked s))) h tt
 not-locked false h = subst (λ (s : State). T (not (isLocked s))) h tt
 
 -- A place is shown where there is an offset.
-abbrev somewhere : Maybe → Bool
+abbrev pub somewhere : Maybe → Bool
 somewhere maybe.Absent = false
 somewhere (maybe.Is offset) = true
 

@@ -31,7 +31,7 @@ use Rattle.engine_spec.specs.declared.types.Endpoint.{Endpoint}
 use Rattle.engine_spec.specs.declared.types.Endpoint.the-variants as endpoint
 
 -- ---- an opening that is answered gives all that the list's proof rests on
-grounds : (c : Configuration) (hop : Float) (reference : Features) (x : Index) → Opening c hop reference x → Grounds (openedSettings hop reference) (matcherOfReference hop reference)
+pub grounds : (c : Configuration) (hop : Float) (reference : Features) (x : Index) → Opening c hop reference x → Grounds (openedSettings hop reference) (matcherOfReference hop reference)
 grounds c hop reference x o =
     let s = openedSettings hop reference in
     record {

@@ -1,6 +1,6 @@
 -- What is proved of every state that a fresh engine reaches, besides the guarantee. Definitions only.
 use Prim.Native.Nat.{ℕ, _-_, _≤_, _<_}
-use mathlib.Core.Bool.{true, false}
+use mathlib.Core.Bool.{true, false, cond}
 use mathlib.Core.List.{List, [], _∷_}
 use mathlib.Core.Path.{_≡_}
 use lib.Dec.{T}
@@ -9,18 +9,19 @@ use lib.Ieee.{Float}
 use Rattle.numbers_spec.specs.Rows.{Every, F32}
 use Rattle.matcher_spec.specs.Limits.{candidatesMost}
 use Rattle.matcher_spec.specs.Index.{Index}
-use Rattle.engine_spec.specs.Cases.{isRefused, unreachable}
+use Rattle.engine_spec.specs.Cases.{isRefused, isLocked, unreachable}
 use Rattle.engine_spec.specs.Windows.{Submission, indexed, endpointOf}
 use Rattle.matcher_spec.specs.Features.{Features}
 use Rattle.engine_spec.specs.Refusals.{handedRefusal, submissionRefusal}
 use Rattle.engine_spec.specs.Opening.{opening, openedIndex, openedSettings, matcherOfReference}
 use Rattle.engine_spec.specs.Submitting.{shownAgain, submit}
-use Rattle.engine_spec.specs.SupportAge.{coastShown, supportAge}
+use Rattle.engine_spec.specs.SupportAge.{supportAge}
 use Rattle.engine_spec.specs.Lists.{Answered, answersTo, engineAfter, remaining, unanswered}
 use Rattle.engine_spec.specs.Guarantee.{AllHanded, FilledWith, Promised}
 use Rattle.engine_spec.specs.declared.types.Configuration.{Configuration}
 use Rattle.engine_spec.specs.declared.types.Engine.{Engine}
 use Rattle.engine_spec.specs.declared.types.OpenResult.{OpenResult}
+use Rattle.engine_spec.specs.declared.types.State.the-variants as state
 use Rattle.engine_spec.specs.declared.types.Maybe.{Maybe}
 use Rattle.engine_spec.specs.declared.types.Maybe.the-variants as maybe
 use Rattle.engine_spec.specs.declared.types.Refusal.the-variants as refusal
@@ -60,6 +61,10 @@ RefusedOpening =
 abbrev pub FewCandidates : Type 0
 FewCandidates = (e : Engine) (i : Submission) → submit e i .snapshot .diagnostics .«candidate_count» ≤ candidatesMost
 
+-- No state, made by a caller or not, has an age unless its last snapshot is Locked.
+abbrev pub AgeOfLocked : Type 0
+AgeOfLocked = (e : Engine) (x : Float) → supportAge e .«coast_ms» ≡ maybe.Is x → e .last .snapshot .state ≡ state.Locked
+
 -- ---- what the last computed answer of a list leaves
 abbrev pub lastOf : List Answered → Answered
 lastOf l = getD l (length l - 1) unanswered
@@ -75,7 +80,9 @@ Rereadings = OfReached (λ (e : Engine) (l : List Submission). (i : Submission) 
 -- The support age of the state after the list l: the coast of the last computed answer where that is Locked, else nothing.
 abbrev pub ageLeft : List Answered → Maybe
 ageLeft [] = maybe.Absent
-ageLeft (a ∷ l) = coastShown (lastOf (a ∷ l) .snapshot)
+ageLeft (a ∷ l) =
+    let s = lastOf (a ∷ l) .snapshot in
+    cond (isLocked (s .state)) (maybe.Is (s .diagnostics .spectral .«coast_ms»)) maybe.Absent
 
 abbrev pub SupportAges : Type 0
 SupportAges = OfReached (λ (e : Engine) (l : List Submission). supportAge (engineAfter e l) ≡ record { refusal = refusal.None; «coast_ms» = ageLeft (remaining (answersTo e l)) })
