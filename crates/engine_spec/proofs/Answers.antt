@@ -41,7 +41,7 @@ use Rattle.engine_spec.specs.declared.types.State.{State}
 use Rattle.engine_spec.specs.declared.types.State.the-variants as state
 use Rattle.engine_spec.specs.declared.types.WithholdReason.{WithholdReason}
 use Rattle.engine_spec.specs.declared.types.WithholdReason.the-variants as reason
-use Rattle.engine_spec.proofs.Tests.{cond-elim, not-or-l, not-or-r, T-is, not-T-is}
+use Rattle.engine_spec.proofs.Tests.{cond-elim, not-or-l, not-or-r, not-not, T-is, not-T-is}
 use Rattle.engine_spec.proofs.Effects.{isHeld, Track, gone, set, kept, Ended, ended, FiniteTrack, Offsets, same, weak, pass, Effects, bestOf, Shown, TrackShown, off, on, View, Silence}
 
 -- ---- the track
@@ -63,17 +63,22 @@ tracked-track lock m q now (hypothesis.Held offset first last c) =
     cond-elim (λ (t : Tracked). Track now lock (hypothesis.Held offset first last c) (t .accepted) (t .supported)) (mayCoast now last) _ _
     (λ h. followed-track lock offset first last c now (localSearch (m .reference) (m .fine) q (offset ⊖ localMs) (offset ⊕ localMs)) h) (λ h. gone)
 
--- The end of a chain leaves one with this evidence: a track is kept only where the window supports it.
+-- The end of a chain keeps a track only where the window supports it at the best's place.
+pub kept-or-begun : (G : Hypothesis → Type 0) (o : Float) (f l : RecordedMs) (c : Float) (supported : Bool) (best : Candidate) (now : RecordedMs) → G (hypothesis.Held (best .«offset_ms») now now (best .score))
+    → (T (not (lt samePlaceMs (absolute (o ⊖ best .«offset_ms»)))) → T supported → G (hypothesis.Held o f l c)) → G (keptOrReplaced (hypothesis.Held o f l c) supported best now)
+unfolding keptOrReplaced
+kept-or-begun G o f l c supported best now x y =
+    let far = lt samePlaceMs (absolute (o ⊖ best .«offset_ms»)) in
+    cond-elim G (far || not supported) _ _ (λ t. x) (λ t. y (not-or-l far (not supported) t) (not-not supported (not-or-r far (not supported) t)))
+
+-- So it leaves one with this evidence,
 replaced-track : (now : RecordedMs) {h a : Hypothesis} {supported : Bool} (best : Candidate) → Track now true h a supported → Track now true h (keptOrReplaced a supported best now) true
 unfolding keptOrReplaced
 replaced-track now best gone = set refl (inl tt)
-replaced-track now {h = h} best (set {o = o} e u) =
-    cond-elim (λ (t : Hypothesis). Track now true h t true) (lt samePlaceMs (absolute (o ⊖ best .«offset_ms»)) || false) _ _ (λ x. set refl (inl tt)) (λ x. set e (inl tt))
-replaced-track now {h = h} best (kept {o = o} u) =
-    cond-elim (λ (t : Hypothesis). Track now true h t true) (lt samePlaceMs (absolute (o ⊖ best .«offset_ms»)) || true) _ _ (λ x. set refl (inl tt))
-    (λ x. absurd (not-or-r (lt samePlaceMs (absolute (o ⊖ best .«offset_ms»))) true x))
+replaced-track now {h = h} best (set {o = o} {f = f} {l = l} {c = c} e u) = kept-or-begun (λ (t : Hypothesis). Track now true h t true) o f l c true best now (set refl (inl tt)) (λ x y. set e (inl tt))
+replaced-track now {h = h} best (kept {o = o} {f = f} {l = l} {c = c} u) = kept-or-begun (λ (t : Hypothesis). Track now true h t true) o f l c false best now (set refl (inl tt)) (λ x y. absurd y)
 
--- and at the best's place: kept only where that is the same.
+-- and at the best's place.
 same-self : (x : Float) → T (finite x) → T (samePlace x x)
 unfolding le lt eq ofBits
 same-self x f = subst (λ (d : Float). T (le (absolute d) samePlaceMs)) (sym (sub-self binary64 x f)) tt
@@ -93,15 +98,11 @@ not-apart x y f g h =
 replaced-place : (now : RecordedMs) {lock : Bool} {h a : Hypothesis} {supported : Bool} (best : Candidate) (rest : List Candidate) → Track now lock h a supported → FiniteTrack a → T (finite (best .«offset_ms»))
     → Ended now (keptOrReplaced a supported best now) true (best ∷ rest)
 unfolding keptOrReplaced
-replaced-place now best rest gone t f = ended refl (same-self (best .«offset_ms») f)
-replaced-place now best rest (set {o = o} e u) t f =
-    let far = lt samePlaceMs (absolute (o ⊖ best .«offset_ms»)) in
-    cond-elim (λ (a : Hypothesis). Ended now a true (best ∷ rest)) (far || false) _ _
-    (λ x. ended refl (same-self (best .«offset_ms») f)) (λ x. ended e (not-apart o (best .«offset_ms») t f (not-or-l far false x)))
-replaced-place now best rest (kept {o = o} u) t f =
-    let far = lt samePlaceMs (absolute (o ⊖ best .«offset_ms»)) in
-    cond-elim (λ (a : Hypothesis). Ended now a true (best ∷ rest)) (far || true) _ _
-    (λ x. ended refl (same-self (best .«offset_ms») f)) (λ x. absurd (not-or-r far true x))
+replaced-place now best rest gone t p = ended refl (same-self (best .«offset_ms») p)
+replaced-place now best rest (set {o = o} {f = f} {l = l} {c = c} e u) t p =
+    kept-or-begun (λ (a : Hypothesis). Ended now a true (best ∷ rest)) o f l c true best now (ended refl (same-self (best .«offset_ms») p)) (λ x y. ended e (not-apart o (best .«offset_ms») t p x))
+replaced-place now best rest (kept {o = o} {f = f} {l = l} {c = c} u) t p =
+    kept-or-begun (λ (a : Hypothesis). Ended now a true (best ∷ rest)) o f l c false best now (ended refl (same-self (best .«offset_ms») p)) (λ x y. absurd y)
 
 -- ---- the searches of one window
 module _ (m : Matcher) (hop : Float) (w : Window) (k : Reached) (l : Lock) (O : Offsets m (query w) (evidence hop w) (l .accepted)) where

@@ -18,7 +18,7 @@ use Rattle.engine_spec.specs.Cases.{isNone, isLocked, isRefused}
 use Rattle.engine_spec.specs.Thresholds.{localMs}
 use Rattle.engine_spec.specs.Windows.{Window, Submission, matcherIn, query, endpointOf, evidence, rereads}
 use Rattle.engine_spec.specs.Milestones.{reachedBy}
-use Rattle.engine_spec.specs.Refusals.{numberOf, refuses, unless, validConfiguration, validSettings, validLock, validMilestones, validEndpoint, validSnapshot, validLast, validEngine, handedRefusal, submissionRefusal}
+use Rattle.engine_spec.specs.Refusals.{numberOf, refuses, unless, validConfiguration, validSettings, validLock, validMilestones, validEndpoint, validSnapshot, validLast, validEngine, openingRefusal, handedRefusal, submissionRefusal}
 use Rattle.engine_spec.specs.Opening.{blankSnapshot, freshEngine, noEngine, opening}
 use Rattle.engine_spec.specs.Readiness.{readiness}
 use Rattle.engine_spec.specs.Tracking.{Tracked, mayCoast, supports, followed, tracked}
@@ -57,15 +57,13 @@ refused-seven : (e : Engine) (i : Submission) → validEngine e ≡ false → su
 unfolding submit submissionRefusal numberOf
 refused-seven e i h = rw h refl
 
-refused-gives : (b : Bool) (r : Refusal) (y : Engine) → isRefused (cond {A = OpenResult} b (record { answer = answer.Refused r; engine = noEngine }) (record { answer = answer.Opened; engine = y }) .answer) ≡ true
-    → cond {A = OpenResult} b (record { answer = answer.Refused r; engine = noEngine }) (record { answer = answer.Opened; engine = y }) .engine ≡ noEngine
-unfolding isRefused
-refused-gives true r y h = refl
-refused-gives false r y h = absurd (subst T (sym h) tt)
+refused-gives : (b : Bool) (x y : OpenResult) → isRefused (y .answer) ≡ false → isRefused (cond b x y .answer) ≡ true → cond b x y .engine ≡ x .engine
+refused-gives true x y o h = refl
+refused-gives false x y o h = absurd (subst T o (subst T (sym h) tt))
 
 pub refused-opening : RefusedOpening
-unfolding opening
-refused-opening c hop reference x h i = refused-seven (opening c hop reference x .engine) i (ap validEngine (refused-gives _ _ _ h) ∙ no-engine-invalid)
+unfolding opening isRefused
+refused-opening c hop reference x h i = refused-seven (opening c hop reference x .engine) i (ap validEngine (refused-gives (refuses (openingRefusal c hop reference x)) _ _ refl h) ∙ no-engine-invalid)
 
 -- ---- at most 8 candidates
 -- A search leaves the candidates that it found.

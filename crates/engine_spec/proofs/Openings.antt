@@ -22,7 +22,7 @@ use Rattle.matcher_spec.proofs.FilledIndex.{filled-index}
 use Rattle.engine_spec.specs.Windows.{Window, indexed, matcherIn, query, endpointOf, Submission}
 use Rattle.matcher_spec.specs.Features.{Features}
 use Rattle.engine_spec.specs.Refusals.{numberOf, refuses, near, nearOrNotFinite, validConfiguration, hopInRange, countsInRange, bothOrNeither, openingRefusal, validSettings, handedRefusal}
-use Rattle.engine_spec.specs.Opening.{freshEngine, noEngine, withIndex, withoutIndex, acceptsFeatures, openedSettings, opening, fills, matcherOfReference, openedIndex}
+use Rattle.engine_spec.specs.Opening.{freshEngine, withIndex, withoutIndex, acceptsFeatures, openedSettings, opening, fills, matcherOfReference, openedIndex}
 use Rattle.engine_spec.specs.Readiness.{readiness}
 use Rattle.engine_spec.specs.Publishing.{decide}
 use Rattle.engine_spec.specs.Submitting.{lockFrom, decisionOn}
@@ -38,7 +38,6 @@ use Rattle.engine_spec.specs.declared.types.Engine.{Engine}
 use Rattle.engine_spec.specs.declared.types.WithholdReason.{WithholdReason}
 use Rattle.engine_spec.specs.declared.types.WithholdReason.the-variants as reason
 use Rattle.engine_spec.specs.declared.types.Answer.the-variants as answer
-use Rattle.engine_spec.specs.declared.types.Refusal.{Refusal}
 use Rattle.engine_spec.specs.declared.types.Refusal.the-variants as refusal
 use Rattle.engine_spec.specs.declared.types.OpenResult.{OpenResult}
 use Rattle.engine_spec.proofs.Tests.{cond-elim, and-l, and-r, and-i, or-split, or-r, T-is}
@@ -134,15 +133,14 @@ valid-settings s q r b n =
     (and-i (bothOrNeither (s .«reference_frames») (s .«reference_bands»)) _ b n))
 
 -- An opening is answered where it is not refused.
-answered : (b : Bool) (r : Refusal) (x y : Engine) → isRefused (cond {A = OpenResult} b (record { answer = answer.Refused r; engine = x }) (record { answer = answer.Opened; engine = y }) .answer) ≡ false → b ≡ false
-unfolding isRefused
-answered true r x y h = h
-answered false r x y h = refl
+answered : (b : Bool) (x y : OpenResult) → isRefused (x .answer) ≡ true → isRefused (cond b x y .answer) ≡ false → b ≡ false
+answered true x y r h = sym r ∙ h
+answered false x y r h = refl
 
 module _ (c : Configuration) (hop : Float) (reference : Features) (x : Index) (o : opening c hop reference x .answer ≡ answer.Opened) where
   not-refused : refuses (openingRefusal c hop reference x) ≡ false
   unfolding opening isRefused
-  not-refused = answered (refuses (openingRefusal c hop reference x)) (openingRefusal c hop reference x) noEngine (freshEngine c (openedSettings hop reference)) (ap isRefused o)
+  not-refused = answered (refuses (openingRefusal c hop reference x)) _ _ refl (ap isRefused o)
 
   tested : Tested c hop reference
   unfolding openingRefusal numberOf

@@ -48,6 +48,7 @@ use Rattle.engine_spec.specs.declared.types.WithholdReason.{WithholdReas
 use Rattle.engine_spec.specs.declared.types.WithholdReason.the-variants as reason
 use Rattle.engine_spec.proofs.Effects.{Sound, FiniteTrack, Offsets}
 use Rattle.engine_spec.proofs.Tests.{cond-elim, and-l, and-r, and-i, or-l, not-not, T-is}
+use Rattle.engine_spec.proofs.Answers.{kept-or-begun}
 use Rattle.engine_spec.proofs.EvidenceBound.{bounded, in-range, at-most-wider, farthest-finite, track-most-finite, evidence-bound}
 use Rattle.engine_spec.proofs.MovedBound.{foundMost, placeMost, moved-at-most, since-finite, since-not-negative}
 use Rattle.matcher_spec.specs.Limits.{candidatesMost, farthestMs, trackMost}
@@ -189,8 +190,7 @@ module _ (now : RecordedMs) (N : AtMost trackMost (now .0)) where
   kept-or-replaced : (h : Hypothesis) (supported : Bool) (best : Candidate) → Bounded h → Best best → Bounded (keptOrReplaced h supported best now)
   unfolding keptOrReplaced
   kept-or-replaced hypothesis.Absent supported best h b = begun best b
-  kept-or-replaced (hypothesis.Held o f l c) supported best h b =
-      cond-elim Bounded (lt samePlaceMs (absolute (o ⊖ best .«offset_ms»)) || not supported) _ (hypothesis.Held o f l c) (λ t. begun best b) (λ t. h)
+  kept-or-replaced (hypothesis.Held o f l c) supported best h b = kept-or-begun Bounded o f l c supported best now (begun best b) (λ x y. h)
 
 -- A window whose searches are sound.
 module _ (m : Matcher) (hop : Float) (w : Window) (N : AtMost trackMost (evidence hop w .0)) (near-end : T (near (endpointOf w .0))) where

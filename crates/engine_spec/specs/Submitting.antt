@@ -40,7 +40,7 @@ shownAgain endpoint m s = record {
 }
 
 unfoldable pub reread : Engine → RecordedMs → SubmitResult
-reread e endpoint = record { answer = answer.Reread; engine = e; snapshot = shownAgain endpoint (e .milestones) (e .last .snapshot) }
+reread e to = record { answer = answer.Reread; engine = e; snapshot = shownAgain to (e .milestones) (e .last .snapshot) }
 
 -- ---- a computed answer
 -- A jump drops pending, accepted and the search time (document 01); the last snapshot is replaced in any case, and milestones stay.
