@@ -37,7 +37,6 @@ use Rattle.engine_spec.specs.declared.types.Maybe.{Maybe}
 use Rattle.engine_spec.specs.declared.types.Maybe.the-variants as maybe
 use Rattle.engine_spec.specs.declared.types.Hypothesis.{Hypothesis}
 use Rattle.engine_spec.specs.declared.types.Hypothesis.the-variants as hypothesis
-use Rattle.engine_spec.specs.declared.types.State.{State}
 use Rattle.engine_spec.specs.declared.types.State.the-variants as state
 use Rattle.engine_spec.specs.declared.types.WithholdReason.{WithholdReason}
 use Rattle.engine_spec.specs.declared.types.WithholdReason.the-variants as reason

@@ -6,7 +6,7 @@ use mathlib.Core.Path.{_≡_, refl, sym, ap, _∙_, subst}
 use native.Mathlib.Omega.{arith}
 use lib.Dec.{T, lit≤, leb, leb→le}
 use lib.ListN.{length}
-use lib.Ieee.{Float, le, lt, eq, ofBits}
+use lib.Ieee.{Float, lt}
 use Rattle.matcher_spec.specs.Limits.{candidatesMost}
 use Rattle.matcher_spec.specs.Features.{Features}
 use Rattle.matcher_spec.specs.Index.{Matcher}

@@ -6,14 +6,13 @@ use mathlib.Core.Path.{_≡_, refl, sym, ap, _∙_, subst}
 use native.Mathlib.Omega.{arith}
 use lib.Dec.{T}
 use lib.ListN.{length, getD}
-use lib.Ieee.{Float}
 use Rattle.matcher_spec.specs.Index.{Matcher}
-use Rattle.engine_spec.specs.Cases.{isComputed, isLocked}
+use Rattle.engine_spec.specs.Cases.{isComputed}
 use Rattle.engine_spec.specs.Windows.{Submission, endpointOf, rereads}
-use Rattle.engine_spec.specs.Refusals.{unless, validConfiguration, validEngine, refuses, submissionRefusal}
+use Rattle.engine_spec.specs.Refusals.{validConfiguration, validEngine, refuses, submissionRefusal}
 use Rattle.engine_spec.specs.Opening.{freshEngine, openedSettings, matcherOfReference}
 use Rattle.engine_spec.specs.Submitting.{shownAgain, reread, decisionOn, computedFrom, refused, answeredFrom, submit}
-use Rattle.engine_spec.specs.SupportAge.{coastShown, supportAge}
+use Rattle.engine_spec.specs.SupportAge.{supportAge}
 use Rattle.engine_spec.specs.Lists.{Answered, answersTo, engineAfter, remaining, unanswered}
 use Rattle.engine_spec.specs.Guarantee.{AllHanded, nothing, next}
 use Rattle.engine_spec.specs.Guaranteed.{lastOf, ReadAgain, Rereadings, ageLeft, SupportAges}
@@ -22,11 +21,7 @@ use Rattle.engine_spec.specs.declared.types.Settings.{Settings}
 use Rattle.engine_spec.specs.declared.types.Snapshot.{Snapshot}
 use Rattle.engine_spec.specs.declared.types.Last.{Last}
 use Rattle.engine_spec.specs.declared.types.Engine.{Engine}
-use Rattle.engine_spec.specs.declared.types.Age.{Age}
 use Rattle.engine_spec.specs.declared.types.SubmitResult.{SubmitResult}
-use Rattle.engine_spec.specs.declared.types.Maybe.{Maybe}
-use Rattle.engine_spec.specs.declared.types.Maybe.the-variants as maybe
-use Rattle.engine_spec.specs.declared.types.Refusal.{Refusal}
 use Rattle.engine_spec.specs.declared.types.Refusal.the-variants as refusal
 use Rattle.engine_spec.specs.declared.types.Answer.{Answer}
 use Rattle.engine_spec.specs.declared.types.Answer.the-variants as answer

@@ -5,7 +5,7 @@ use mathlib.Core.List.{List}
 use mathlib.Core.Logic.{inl, inr}
 use mathlib.Core.Path.{_≡_, refl, sym, ap, _∙_, subst}
 use lib.Dec.{T}
-use lib.Ieee.{Float, binary64, lt, le}
+use lib.Ieee.{Float, binary64, lt}
 use lib.Ieee.Scale.{finite}
 use Rattle.numbers_spec.specs.Arithmetic.{zero⁺, atLeast}
 use Rattle.numbers_spec.proofs.Sums.{sub-self}
@@ -15,9 +15,8 @@ use Rattle.engine_spec.specs.Windows.{_after_}
 use Rattle.engine_spec.specs.Locking.{Searched}
 use Rattle.engine_spec.specs.Publishing.{offsetOf}
 use Rattle.engine_spec.specs.Lists.{Answered}
-use Rattle.engine_spec.specs.Chain.{bestOffset, offsetShown, bothNear, shownAt, when, placeAt, Ending, Coasting, LockingAt, Placed}
+use Rattle.engine_spec.specs.Chain.{bestOffset, offsetShown, shownAt, when, placeAt, Ending, Coasting, LockingAt, Placed}
 use Rattle.engine_spec.specs.declared.types.RecordedMs.{RecordedMs}
-use Rattle.engine_spec.specs.declared.types.Snapshot.{Snapshot}
 use Rattle.engine_spec.specs.declared.types.Maybe.{Maybe}
 use Rattle.engine_spec.specs.declared.types.Maybe.the-variants as maybe
 use Rattle.engine_spec.specs.declared.types.Estimate.{Estimate}
@@ -27,7 +26,7 @@ use Rattle.engine_spec.specs.declared.types.Hypothesis.the-variants as h
 use Rattle.engine_spec.specs.declared.types.State.{State}
 use Rattle.engine_spec.specs.declared.types.State.the-variants as state
 use Rattle.engine_spec.proofs.Effects.{isHeld, Track, gone, set, kept, Ended, ended, bestOf, TrackShown, off, on}
-use Rattle.engine_spec.proofs.Pending.{Pending, idle, running}
+use Rattle.engine_spec.proofs.Pending.{Pending, running}
 
 -- ---- what one snapshot shows
 -- On no track it is not Locked.

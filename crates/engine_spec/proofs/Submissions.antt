@@ -23,7 +23,6 @@ use Rattle.engine_spec.specs.declared.types.SubmitResult.{SubmitResult}
 use Rattle.engine_spec.specs.declared.types.Endpoint.{Endpoint}
 use Rattle.engine_spec.specs.declared.types.Endpoint.the-variants as endpoint
 use Rattle.engine_spec.specs.declared.types.Answer.{Answer}
-use Rattle.engine_spec.specs.declared.types.Answer.the-variants as answer
 
 -- A test that comes out both ways.
 pub clash : {A : Type 0} → true ≡ false → A

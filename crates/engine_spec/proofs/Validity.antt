@@ -1,6 +1,6 @@
 -- What keeps the states that a fresh engine reaches from being refused with 7: every number in range, and every place's offset within 2^42. Assumes nothing.
 use mathlib.Core.Path.{_≡_, sym, subst}
-use mathlib.Core.Bool.{Bool, true, false, not, _&&_, _||_}
+use mathlib.Core.Bool.{Bool, true, false, not, _&&_}
 use mathlib.Core.List.{List, [], _∷_}
 use Prim.Native.Nat.{_≤_}
 use native.Mathlib.Omega.{arith}
@@ -9,7 +9,7 @@ use lib.Count.{trailingZeros}
 use lib.ListN.{length}
 use lib.Ieee.{Float, inf, binary64, le, lt, eq, neg, add, sum, ofBits, ofFields, odd, round, units, size, span, climb}
 use lib.Ieee.Scale.{finite}
-use Rattle.numbers_spec.specs.Arithmetic.{_⊕_, _⊖_, zero⁺, absolute, atLeast}
+use Rattle.numbers_spec.specs.Arithmetic.{_⊕_, zero⁺, atLeast}
 use Rattle.numbers_spec.specs.Values.{AtMost}
 use Rattle.numbers_spec.proofs.Order.{at-most-finite}
 use Rattle.numbers_spec.proofs.Sums.{add-at-most, sub-at-most}
@@ -18,7 +18,7 @@ use Rattle.matcher_spec.specs.Index.{Matcher}
 use Rattle.matcher_spec.specs.Search.{wholeSearch, localSearch}
 use Rattle.matcher_spec.specs.SoundSearch.{SoundResult}
 use Rattle.numbers_spec.proofs.Within.{within-at-most}
-use Rattle.engine_spec.specs.Thresholds.{samePlaceMs, supportCorrelation, supportRecent}
+use Rattle.engine_spec.specs.Thresholds.{supportCorrelation, supportRecent}
 use Rattle.engine_spec.specs.Windows.{Window, indexed, query, endpointOf, evidence, jumps, _after_, Submission, samePlace, current}
 use Rattle.engine_spec.specs.Refusals.{within, near, hopInRange, validConfiguration, validSettings, trackNumber, validHypothesis, validSearchTime, validLock, validMilestone, validMilestones, validEndpoint, validEstimate, validSnapshot, validLast, validEngine}
 use Rattle.engine_spec.specs.Opening.{noLock, freshEngine}

@@ -1,6 +1,6 @@
 -- The decision on a window, and the snapshot that shows it (engine.rs, `process` and `publish`). Definitions only.
 use Prim.Native.Nat.{ℕ, _-_, _*_}
-use mathlib.Core.Bool.{Bool, true, false, cond, _&&_}
+use mathlib.Core.Bool.{Bool, false, cond, _&&_}
 use mathlib.Core.List.{List, [], _∷_, _++_}
 use lib.ListN.{length, replicate}
 use lib.Ieee.{Float, lt, eq}
