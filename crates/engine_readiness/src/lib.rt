@@ -7,8 +7,9 @@ ghost use Rattle.numbers_spec.specs.Rows.{sumTo, tally};
 ghost use Rattle.numbers_spec.specs.Arithmetic.{_⊘_};
 ghost use Rattle.numbers_spec.specs.Exponential.{tenTo};
 ghost use Rattle.engine_spec.specs.Thresholds.{ten};
-ghost use Rattle.engine_spec.specs.Readiness.{activeFraction, averageEnergy, isNone, minimumDuration, readiness};
+ghost use Rattle.engine_spec.specs.Readiness.{activeFraction, averageEnergy, minimumDuration, readiness};
 ghost use Rattle.engine_spec.specs.Lent.{window};
+ghost use Rattle.engine_spec.specs.Cases.{isNone};
 use engine_spec::thresholds::TEN;
 use engine_spec::types::Configuration;
 use engine_spec::types::Settings;
@@ -87,22 +88,22 @@ fn average_energy(bands: usize, times: &[f64], energies: &[f64], values: &[f32])
     }
 }
 
-fn minimum_duration(settings: Settings, confirmed: bool) -> f64
-    ensures { λ r. ⌜ r ≡ minimumDuration settings confirmed ⌝ }
+fn minimum_duration(configuration: Configuration, hop: f64, confirmed: bool) -> f64
+    ensures { λ r. ⌜ r ≡ minimumDuration configuration hop confirmed ⌝ }
 {
-    let c = settings.configuration;
     if confirmed {
         at_most(
-            c.minimum_readiness_duration_ms,
-            c.tracking_query_duration_ms - settings.hop_ms,
+            configuration.minimum_readiness_duration_ms,
+            configuration.tracking_query_duration_ms - hop,
         )
     } else {
-        c.minimum_readiness_duration_ms
+        configuration.minimum_readiness_duration_ms
     }
 }
 
 // Why the window cannot be searched, or None.
 pub fn readiness(
+    configuration: Configuration,
     settings: Settings,
     confirmed: bool,
     bands: usize,
@@ -111,14 +112,13 @@ pub fn readiness(
     values: &[f32],
 ) -> WithholdReason
     requires { ⌜ 0 < length (now times) ⌝ ∗ ⌜ length (now times) ≤ length (now energies) ⌝ }
-    ensures { λ r. ⌜ r ≡ readiness settings confirmed (window bands (now (times .entry)) (now (energies .entry)) (now (values .entry))) ⌝ }
+    ensures { λ r. ⌜ r ≡ readiness configuration settings confirmed (window bands (now (times .entry)) (now (energies .entry)) (now (values .entry))) ⌝ }
 {
-    let c = settings.configuration;
     let n = times.len();
     if settings.reference_frames == 0 {
         return WithholdReason::IndexUnavailable;
     }
-    let least = minimum_duration(settings, confirmed);
+    let least = minimum_duration(configuration, settings.hop_ms, confirmed);
     if times[n - 1] - times[0] < least {
         return WithholdReason::InsufficientDuration;
     }
@@ -131,11 +131,11 @@ pub fn readiness(
         return WithholdReason::LostSignal;
     }
     let average = average_energy(bands, times, energies, values);
-    if average < c.minimum_average_energy_dbfs {
+    if average < configuration.minimum_average_energy_dbfs {
         return WithholdReason::InsufficientEnergy;
     }
-    let active = active_fraction(c, bands, times, energies, values);
-    if active < c.minimum_active_frame_fraction {
+    let active = active_fraction(configuration, bands, times, energies, values);
+    if active < configuration.minimum_active_frame_fraction {
         return WithholdReason::InsufficientActiveFrames;
     }
     WithholdReason::None

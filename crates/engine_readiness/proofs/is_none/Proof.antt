@@ -1,6 +1,6 @@
 -- `engine_readiness::is_none` meets its contract. Assumes nothing.
 use borrow.Author.Needs.{needs}
-use Rattle.engine_spec.specs.Readiness.{isNone}
+use Rattle.engine_spec.specs.Cases.{isNone}
 use Rattle.engine_readiness.proofs.is_none.Statement.{statement}
 use Rattle.engine_readiness.proofs.is_none.Tie as tie
 
