@@ -1,5 +1,6 @@
 // Refusals 1 and 7: configurations and states.
 ghost use mathlib.Core.Path.{_≡_};
+ghost use Rattle.engine_spec.specs.Milestones.{milestonesShown};
 ghost use Rattle.engine_spec.specs.Refusals.{bothOrNeither, countsInRange, validConfiguration, validDuration, validEndpoint, validEngine, validEstimate, validHypothesis, validLast, validLock, validMilestone, validMilestones, validSearchTime, validSettings, validSnapshot};
 use crate::ranges::is_hop;
 use crate::ranges::is_near;
@@ -58,13 +59,11 @@ fn is_both_or_neither(frames: usize, bands: usize) -> bool
 fn is_valid_settings(s: Settings) -> bool
     ensures { λ r. ⌜ r ≡ validSettings s ⌝ }
 {
-    let configuration = s.configuration;
     let frames = s.reference_frames as usize;
     let bands = s.reference_bands as usize;
-    is_valid_configuration(configuration)
-        & (is_hop(s.hop_ms)
-            & (are_counts(frames, bands)
-                & (is_both_or_neither(frames, bands) & is_near(s.reference_start_ms.0))))
+    is_hop(s.hop_ms)
+        & (are_counts(frames, bands)
+            & (is_both_or_neither(frames, bands) & is_near(s.reference_start_ms.0)))
 }
 
 // All four numbers of a place.
@@ -150,12 +149,26 @@ fn is_valid_estimate(e: Estimate) -> bool
     }
 }
 
+// The milestones that a snapshot shows, as an engine holds them.
+fn milestones_shown(s: Snapshot) -> Milestones
+    ensures { λ r. ⌜ r ≡ milestonesShown s ⌝ }
+{
+    let first_provisional_ms = s.first_provisional_lock_elapsed_ms;
+    let confirmed_ms = s.confirmed_lock_elapsed_ms;
+    let final_ms = s.final_lock_elapsed_ms;
+    Milestones {
+        first_provisional_ms,
+        confirmed_ms,
+        final_ms,
+    }
+}
+
 // At most 8 candidates, and an estimate and milestones that a state may hold.
 fn is_valid_snapshot(s: Snapshot) -> bool
     ensures { λ r. ⌜ r ≡ validSnapshot s ⌝ }
 {
     let estimate = s.estimate;
-    let milestones = s.milestones;
+    let milestones = milestones_shown(s);
     let shown = s.diagnostics.candidate_count;
     (shown <= CANDIDATES_MOST) & (is_valid_estimate(estimate) & are_valid_milestones(milestones))
 }
@@ -173,10 +186,12 @@ fn is_valid_last(l: Last) -> bool
 pub fn is_valid_engine(e: Engine) -> bool
     ensures { λ r. ⌜ r ≡ validEngine e ⌝ }
 {
+    let configuration = e.configuration;
     let settings = e.settings;
     let lock = e.lock;
     let milestones = e.milestones;
     let last = e.last;
-    is_valid_settings(settings)
-        & (is_valid_lock(lock) & (are_valid_milestones(milestones) & is_valid_last(last)))
+    is_valid_configuration(configuration)
+        & (is_valid_settings(settings)
+            & (is_valid_lock(lock) & (are_valid_milestones(milestones) & is_valid_last(last))))
 }

@@ -8,8 +8,6 @@ use Rattle.engine_refusals.proofs.TestLaws.{few}
 use Rattle.engine_refusals.proofs.handed.index_fits.Statement.{statement}
 use Rattle.engine_refusals.proofs.handed.index_fits.Tie as tie
 
--- `engine_refusals::handed::index_fits` meets its contract. Assumes nothing.
-
 mul-result : tie.Need-mul-result
 mul-result c = omega (arith, few (c .args .bands) (c .args .frames) (2 ^ 16) (2 ^ 16) (omega arith) (omega arith))
 

@@ -6,7 +6,7 @@ use Rattle.engine_refusals.proofs.states.is_valid_settings.Tie as tie
 
 returns : tie.Need-returns
 unfolding validSettings
-returns c = simp (← (c .before .before .before .before .is-valid-configuration .ensures), ← (c .before .before .before .is-hop .ensures), ← (c .before .before .are-counts .ensures), ← (c .before .is-both-or-neither .ensures), ← (c .is-near .ensures))
+returns c = simp (← (c .before .before .before .is-hop .ensures), ← (c .before .before .are-counts .ensures), ← (c .before .is-both-or-neither .ensures), ← (c .is-near .ensures))
 
 pub is-valid-settings-spec : {M : Type 1} → statement M
 is-valid-settings-spec =
@@ -14,7 +14,6 @@ is-valid-settings-spec =
     (tie.spec
     (λ c. search needs)
     (λ c. search needs)
-    (λ c κs. search needs)
     (λ c κs. search needs)
     (λ c κs. search needs)
     (λ c κs. search needs)
