@@ -7,16 +7,18 @@ use mathlib.Core.Path.{_≡_, refl, sym, ap, _∙_}
 use lib.ListN.{drop, take}
 use borrow.Author.Tests.{eq-eqb, not-true, not-false}
 use lib.Ieee.{Float, nan, inf, fin, le, eq, isNan, up, down}
+use Rattle.matcher_spec.specs.Features.{Features}
 use Rattle.matcher_spec.specs.Index.{Matcher}
 use Rattle.matcher_spec.specs.Search.{localSearch}
 use Rattle.matcher_spec.specs.Candidates.{marginOf}
 use Rattle.matcher_spec.specs.declared.types.Candidate.{Candidate}
 use Rattle.engine_spec.specs.Thresholds.{passingCorrelation, passingMargin, passingHalf, localMs}
 use Rattle.numbers_spec.specs.Arithmetic.{_⊕_, _⊖_, zero⁺, atLeast, least}
-use Rattle.engine_spec.specs.Windows.{Window, query, evidence, _after_}
+use Rattle.engine_spec.specs.Windows.{_after_, samePlace, current}
 use Rattle.engine_spec.specs.Tracking as tracking
-use Rattle.engine_spec.specs.Tracking.{samePlace, mayCoast, supports, movedOffset, unsupported, followed, tracked}
-use Rattle.engine_spec.specs.Locking.{passing, current, holds, Reached, firstEvidence, passed, notPassed, wholeSearched}
+use Rattle.engine_spec.specs.Tracking.{mayCoast, supports, movedOffset, unsupported, followed, tracked}
+use Rattle.engine_spec.specs.Locking.{passing, holds, firstEvidence, passed, notPassed, wholeSearched}
+use Rattle.engine_spec.specs.declared.types.Reached.{Reached}
 use Rattle.engine_spec.specs.declared.types.RecordedMs.{RecordedMs}
 use Rattle.engine_spec.specs.declared.types.Maybe.the-variants as maybe
 use Rattle.engine_spec.specs.declared.types.Hypothesis.{Hypothesis}
@@ -51,29 +53,28 @@ module _ (offset : Float) (first last : RecordedMs) (correlation : Float) (now :
   unfolding followed
   not-followed l b e h = by-best (λ (x : List Candidate). unsupported held x) (λ (x : List Candidate). followed offset first last correlation now x) l b e (rw h refl)
 
-  pub coasting : (m : Matcher) (hop : Float) (w : Window) → evidence hop w ≡ now → mayCoast now last ≡ true
-      → followed offset first last correlation now (localSearch (m .reference) (m .fine) (query w) (offset ⊖ localMs) (offset ⊕ localMs)) ≡ tracked m hop w held
+  pub coasting : (m : Matcher) (query : Features) → mayCoast now last ≡ true
+      → followed offset first last correlation now (localSearch (m .reference) (m .fine) query (offset ⊖ localMs) (offset ⊕ localMs)) ≡ tracked m query now held
   unfolding tracked
-  coasting m hop w e h = rw (e, h) refl
+  coasting m query h = rw h refl
 
-  pub dropped : (m : Matcher) (hop : Float) (w : Window) → evidence hop w ≡ now → mayCoast now last ≡ false
-      → unsupported hypothesis.Absent [] ≡ tracked m hop w held
+  pub dropped : (m : Matcher) (query : Features) → mayCoast now last ≡ false → unsupported hypothesis.Absent [] ≡ tracked m query now held
   unfolding tracked
-  dropped m hop w e h = rw (e, h) refl
+  dropped m query h = rw h refl
 
-module _ (hop : Float) (w : Window) (k : Reached) (pending : Hypothesis) (t : tracking.Tracked) where
-  pub whole-not-passed : (l : List Candidate) → passing l ≡ false → notPassed hop w k pending t l ≡ wholeSearched hop w k pending t l
+module _ (hop : Float) (now endpoint : RecordedMs) (k : Reached) (pending : Hypothesis) (t : tracking.Tracked) where
+  pub whole-not-passed : (l : List Candidate) → passing l ≡ false → notPassed now endpoint k pending t l ≡ wholeSearched hop now endpoint k pending t l
   unfolding wholeSearched
   whole-not-passed [] h = refl
   whole-not-passed (b ∷ l) h = rw h refl
 
   pub whole-passed : (l : List Candidate) (b : Candidate) → l ≡ b ∷ drop 1 l → passing l ≡ true
-      → passed hop w k (firstEvidence pending (b .«offset_ms») (evidence hop w)) t b (drop 1 l) ≡ wholeSearched hop w k pending t l
+      → passed hop now endpoint k (firstEvidence pending (b .«offset_ms») now) t b (drop 1 l) ≡ wholeSearched hop now endpoint k pending t l
   unfolding wholeSearched
   whole-passed l b e h =
       let q : passing (b ∷ drop 1 l) ≡ true = sym (ap passing e) ∙ h in
-      let p : passed hop w k (firstEvidence pending (b .«offset_ms») (evidence hop w)) t b (drop 1 l) ≡ wholeSearched hop w k pending t (b ∷ drop 1 l) = rw q refl in
-      p ∙ sym (ap (λ (x : List Candidate). wholeSearched hop w k pending t x) e)
+      let p : passed hop now endpoint k (firstEvidence pending (b .«offset_ms») now) t b (drop 1 l) ≡ wholeSearched hop now endpoint k pending t (b ∷ drop 1 l) = rw q refl in
+      p ∙ sym (ap (λ (x : List Candidate). wholeSearched hop now endpoint k pending t x) e)
 
 -- ---- numbers that are none
 eq-self : (y : Float) → eq y y ≡ not (isNan y)

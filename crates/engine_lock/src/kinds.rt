@@ -2,13 +2,8 @@
 use engine_spec::types::Hypothesis;
 use engine_spec::types::Lock;
 use engine_spec::types::Maybe;
+use engine_spec::types::Reached;
 use matcher_spec::types::MatchResult;
-
-pub struct Reached {
-    pub provisional: bool,
-    pub confirmed: bool,
-    pub final_lock: bool,
-}
 
 pub struct Tracked {
     pub accepted: Hypothesis,

@@ -4,15 +4,15 @@ ghost use mathlib.Core.List.{_∷_};
 ghost use mathlib.Core.Path.{_≡_};
 ghost use lib.ListN.{drop};
 ghost use Rattle.matcher_spec.specs.Candidates.{listed};
-ghost use Rattle.engine_spec.specs.Locking.{afterChain, afterPassing, confirms, current, firstEvidence, heldOrDropped, holds, keptOrReplaced, locallySearched, notPassed, passed, passing, wholeDue, wholeSearched};
+ghost use Rattle.engine_spec.specs.Locking.{confirms, firstEvidence, heldOrDropped, holds, isDue, keptOrReplaced, locallySearched, notPassed, passed, passing, wholeSearched};
+ghost use Rattle.engine_spec.specs.Milestones.{afterChain, afterPassing};
+ghost use Rattle.engine_spec.specs.Windows.{current};
 ghost use Rattle.numbers_spec.specs.Arithmetic.{least};
-ghost use Rattle.engine_lock.specs.Views.{endingAt, reachedIn, searchedIn, trackedIn};
+ghost use Rattle.engine_lock.specs.Views.{searchedIn, trackedIn};
 ghost use Rattle.matcher_spec.specs.Limits.{candidatesMost};
-use crate::kinds::Reached;
 use crate::kinds::Searched;
 use crate::kinds::Tracked;
 use crate::track::best_of;
-use crate::track::evidence;
 use crate::track::is_same_place;
 use engine_spec::thresholds::CHAIN_MS;
 use engine_spec::thresholds::CHAIN_RECENT;
@@ -25,6 +25,7 @@ use engine_spec::thresholds::STALE_MS;
 use engine_spec::thresholds::SUPPORTED_INTERVAL_MS;
 use engine_spec::types::Hypothesis;
 use engine_spec::types::Lock;
+use engine_spec::types::Reached;
 use engine_spec::types::RecordedMs;
 use matcher_picks::candidates::margin;
 use matcher_spec::types::Candidate;
@@ -33,13 +34,13 @@ use numbers::float::abs;
 use numbers::float::at_most;
 
 // Due 500 after the last whole search, or 2,000 where the window supports the track.
-pub fn is_whole_due(supported: bool, now: RecordedMs, last: RecordedMs) -> bool
-    ensures { λ r. ⌜ r ≡ wholeDue supported now last ⌝ }
+pub fn is_due(supported: bool, endpoint: RecordedMs, last: RecordedMs) -> bool
+    ensures { λ r. ⌜ r ≡ isDue supported endpoint last ⌝ }
 {
     if supported {
-        return now.0 - last.0 >= SUPPORTED_INTERVAL_MS;
+        return endpoint.0 - last.0 >= SUPPORTED_INTERVAL_MS;
     }
-    now.0 - last.0 >= SEARCH_INTERVAL_MS
+    endpoint.0 - last.0 >= SEARCH_INTERVAL_MS
 }
 
 // `x.min(y)`: a NaN beside a number is passed over.
@@ -171,7 +172,7 @@ fn kept_or_replaced(
 
 // A passing search brings the first milestone.
 fn after_passing(k: Reached) -> Reached
-    ensures { λ r. ⌜ reachedIn r ≡ afterPassing (reachedIn k) ⌝ }
+    ensures { λ r. ⌜ r ≡ afterPassing k ⌝ }
 {
     Reached {
         provisional: true,
@@ -183,7 +184,7 @@ fn after_passing(k: Reached) -> Reached
 // The end of a chain brings final, and confirmed with it. Where final was there, confirmed stays
 // what it was.
 fn after_chain(k: Reached) -> Reached
-    ensures { λ r. ⌜ reachedIn r ≡ afterChain (reachedIn k) ⌝ }
+    ensures { λ r. ⌜ r ≡ afterChain k ⌝ }
 {
     Reached {
         provisional: true,
@@ -192,9 +193,11 @@ fn after_chain(k: Reached) -> Reached
     }
 }
 
-// What a whole search leaves that passed. `first` is the first evidence of pending.
+// What a whole search leaves that passed, of a window with this evidence time and endpoint. `first` is
+// the first evidence of pending.
 fn passed(
     hop: f64,
+    now: RecordedMs,
     endpoint: RecordedMs,
     reached: Reached,
     first: RecordedMs,
@@ -203,10 +206,9 @@ fn passed(
     found: MatchResult,
 ) -> Searched
     requires { ⌜ listed found ≡ best ∷ drop 1 (listed found) ⌝ }
-    ensures { λ r. ⌜ searchedIn r ≡ passed hop (endingAt endpoint) (reachedIn reached) first (trackedIn t) best (drop 1 (listed found)) ⌝ }
+    ensures { λ r. ⌜ searchedIn r ≡ passed hop now endpoint reached first (trackedIn t) best (drop 1 (listed found)) ⌝ }
     ensures { λ r. ⌜ r .found ≡ found ⌝ }
 {
-    let now = evidence(hop, endpoint);
     let innovation = t.innovation;
     let accepted = t.accepted;
     let pending = Hypothesis::Held {
@@ -250,7 +252,7 @@ fn passed(
 
 // What one leaves that did not pass.
 fn not_passed(
-    hop: f64,
+    now: RecordedMs,
     endpoint: RecordedMs,
     reached: Reached,
     pending: Hypothesis,
@@ -258,10 +260,9 @@ fn not_passed(
     found: MatchResult,
 ) -> Searched
     requires { ⌜ found .count ≤ candidatesMost ⌝ }
-    ensures { λ r. ⌜ searchedIn r ≡ notPassed hop (endingAt endpoint) (reachedIn reached) pending (trackedIn t) (listed found) ⌝ }
+    ensures { λ r. ⌜ searchedIn r ≡ notPassed now endpoint reached pending (trackedIn t) (listed found) ⌝ }
     ensures { λ r. ⌜ r .found ≡ found ⌝ }
 {
-    let now = evidence(hop, endpoint);
     let held = held_or_dropped(pending, found, now);
     let accepted = t.accepted;
     let innovation = t.innovation;
@@ -283,6 +284,7 @@ fn not_passed(
 // What a whole search leaves that found these.
 pub fn whole_searched(
     hop: f64,
+    now: RecordedMs,
     endpoint: RecordedMs,
     reached: Reached,
     pending: Hypothesis,
@@ -290,21 +292,20 @@ pub fn whole_searched(
     found: MatchResult,
 ) -> Searched
     requires { ⌜ found .count ≤ candidatesMost ⌝ }
-    ensures { λ r. ⌜ searchedIn r ≡ wholeSearched hop (endingAt endpoint) (reachedIn reached) pending (trackedIn t) (listed found) ⌝ }
+    ensures { λ r. ⌜ searchedIn r ≡ wholeSearched hop now endpoint reached pending (trackedIn t) (listed found) ⌝ }
     ensures { λ r. ⌜ r .found ≡ found ⌝ }
 {
     if !is_passing(found) {
-        return not_passed(hop, endpoint, reached, pending, t, found);
+        return not_passed(now, endpoint, reached, pending, t, found);
     }
     let best = best_of(found);
-    let now = evidence(hop, endpoint);
     let first = first_evidence(pending, best.offset_ms, now);
-    passed(hop, endpoint, reached, first, t, best, found)
+    passed(hop, now, endpoint, reached, first, t, best, found)
 }
 
 // Without a whole search pending and the search time stay.
 pub fn locally_searched(reached: Reached, lock: Lock, t: Tracked) -> Searched
-    ensures { λ r. ⌜ searchedIn r ≡ locallySearched (reachedIn reached) lock (trackedIn t) ⌝ }
+    ensures { λ r. ⌜ searchedIn r ≡ locallySearched reached lock (trackedIn t) ⌝ }
     ensures { λ r. ⌜ r .found ≡ t .found ⌝ }
 {
     let pending = lock.pending;

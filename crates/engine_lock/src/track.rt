@@ -4,9 +4,9 @@ ghost use mathlib.Core.List.{_∷_};
 ghost use mathlib.Core.Path.{_≡_};
 ghost use lib.ListN.{drop};
 ghost use Rattle.matcher_spec.specs.Candidates.{listed};
-ghost use Rattle.engine_spec.specs.Windows.{evidence};
-ghost use Rattle.engine_spec.specs.Tracking.{followed, gain, mayCoast, movedOffset, samePlace, supports, unsupported};
-ghost use Rattle.engine_lock.specs.Views.{endingAt, trackedIn};
+ghost use Rattle.engine_spec.specs.Windows.{evidenceAt, samePlace};
+ghost use Rattle.engine_spec.specs.Tracking.{followed, gain, mayCoast, movedOffset, supports, unsupported};
+ghost use Rattle.engine_lock.specs.Views.{trackedIn};
 ghost use Rattle.matcher_spec.specs.Limits.{candidatesMost};
 use crate::kinds::Tracked;
 use engine_spec::thresholds::COAST_MOST_MS;
@@ -24,10 +24,10 @@ use numbers::exponential::exp;
 use numbers::float::abs;
 use numbers::float::at_least;
 
-// Evidence time (document 01): the endpoint less the rounded 250 / hop frames that centring trims,
+// Evidence time (document 01): an endpoint less the rounded 250 / hop frames that centring trims,
 // here without the floor of 1.
 pub fn evidence(hop: f64, endpoint: RecordedMs) -> RecordedMs
-    ensures { λ r. ⌜ r ≡ evidence hop (endingAt endpoint) ⌝ }
+    ensures { λ r. ⌜ r ≡ evidenceAt hop endpoint ⌝ }
 {
     RecordedMs(endpoint.0 - context_frames(hop) * hop)
 }

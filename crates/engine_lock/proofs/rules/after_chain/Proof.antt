@@ -6,7 +6,7 @@ use Rattle.engine_lock.proofs.rules.after_chain.Statement.{statement}
 use Rattle.engine_lock.proofs.rules.after_chain.Tie as tie
 
 returns : tie.Need-returns
-returns c = ap (λ (x : Bool). record { provisional = true; confirmed = x; final = true }) (chain-confirmed (c .before .before .args .k .«final_lock») (c .before .before .args .k .confirmed))
+returns c = ap (λ (x : Bool). record { provisional = true; confirmed = x; «final_lock» = true }) (chain-confirmed (c .before .before .args .k .«final_lock») (c .before .before .args .k .confirmed))
 
 pub after-chain-spec : {M : Type 1} → statement M
 after-chain-spec = tie.close (tie.spec returns)
