@@ -2,15 +2,14 @@
 use Prim.Native.Nat.{ℕ, zero, suc, _<_, _≤_}
 use native.Mathlib.Omega.{arith}
 use native.Mathlib.Nat.{lt-irrefl}
-use mathlib.Core.Bool.{Bool, true, false, cond, false≢true}
-use mathlib.Core.List.{List, [], _∷_}
+use mathlib.Core.Bool.{Bool, true, false, _&&_, false≢true}
+use mathlib.Core.List.{List, []}
 use mathlib.Core.Path.{_≡_, refl, sym, ap, subst, _∙_}
 use borrow.Author.Tests.{ne-eqb, lt-ltb}
 use lib.ListN.{length}
 use lib.Ieee.{Float}
 use Rattle.matcher_spec.specs.Index.{Index, Matcher}
 use Rattle.matcher_spec.specs.declared.types.Reference.{Reference}
-use Rattle.matcher_spec.specs.Search as search
 use Rattle.matcher_spec.specs.Features.{Features}
 use Rattle.matcher_spec.specs.Search.{FilledQuery, localSearch, wholeSearch}
 use Rattle.matcher_spec.specs.Candidates.{resultOf, listed}
@@ -28,15 +27,11 @@ use Rattle.engine_spec.specs.declared.types.RecordedMs.{RecordedMs}
 use Rattle.engine_spec.specs.declared.types.Hypothesis.the-variants as hypothesis
 use Rattle.matcher_spec.proofs.CandidateLaws.{listed-result}
 use Rattle.engine_lock.proofs.LockLaws.{coasting, dropped}
-use Rattle.engine_spec.specs.Locking.{Reached, Searched, passed, wholeDue, wholeSearched, locallySearched, searched}
+use Rattle.engine_spec.specs.Locking.{Searched, isDue, wholeSearched, searchedIf, searched}
+use Rattle.engine_spec.specs.declared.types.Reached.{Reached}
 use Rattle.engine_spec.specs.declared.types.Hypothesis.{Hypothesis}
 use Rattle.engine_spec.specs.declared.types.Lock.{Lock}
-use Rattle.engine_lock.specs.Views.{endingAt}
 use Rattle.matcher_spec.specs.Limits.{candidatesMost}
-
-pub evidence-ending : (hop : Float) (w : Window) → evidence hop (endingAt (endpointOf w)) ≡ evidence hop w
-unfolding evidence
-evidence-ending hop w = refl
 
 pub found-few : (l : List Candidate) {r : MatchResult} → r ≡ resultOf l → length l ≤ 8 → r .count ≤ candidatesMost
 found-few l e h = rw e h
@@ -50,38 +45,29 @@ some-bands zero zero e h = h
 some-bands (suc n) zero e h = absurd (false≢true (sym (none n) ∙ e))
 some-bands frames (suc b) e h = omega arith
 
--- the lock rules read no more of a window than its endpoint
-pub whole-ending : (hop : Float) (w : Window) (k : Reached) (pending : Hypothesis) (t : tracking.Tracked) (l : List Candidate)
-    → wholeSearched hop (endingAt (endpointOf w)) k pending t l ≡ wholeSearched hop w k pending t l
-unfolding wholeSearched passed evidence
-whole-ending hop w k pending t [] = refl
-whole-ending hop w k pending t (b ∷ l) = refl
+-- the searches of a window, by what tracking left and whether a whole search was asked for
+module _ (granted : Bool) (m : Matcher) (hop : Float) (w : Window) (k : Reached) (l : Lock) {now : RecordedMs} (same : now ≡ evidence hop w) where
+  abbrev asked : tracking.Tracked → Bool
+  asked t = granted && isDue (t .supported) (endpointOf w) (l .«last_global_search_ms»)
 
--- a whole search that found these, by the window's endpoint alone
-pub whole-made : (m : Matcher) (hop : Float) (w : Window) (k : Reached) (pending : Hypothesis) (t : tracking.Tracked) {r : MatchResult} {made : Searched}
-    → made ≡ wholeSearched hop (endingAt (endpointOf w)) k pending t (listed r) → r ≡ resultOf (wholeSearch m (query w)) → made ≡ wholeSearched hop w k pending t (wholeSearch m (query w))
-whole-made m hop w k pending t {r} d e =
-    d ∙ whole-ending hop w k pending t (listed r) ∙ ap (λ (x : List Candidate). wholeSearched hop w k pending t x) (listed-result (wholeSearch m (query w)) e)
-
--- the searches of a window, by what tracking left and whether a whole search was due
-module _ (m : Matcher) (hop : Float) (w : Window) (k : Reached) (l : Lock) where
-  abbrev isDue : tracking.Tracked → Bool
-  isDue u = wholeDue (u .supported) (endpointOf w) (l .«last_global_search_ms»)
-
-  pub by-track : {t : tracking.Tracked} {due : Bool} {made : Searched} → made ≡ cond due (wholeSearched hop w k (l .pending) t (wholeSearch m (query w))) (locallySearched k l t)
-      → t ≡ tracked m hop w (l .accepted) → due ≡ isDue t → made ≡ searched m hop w k l
+  pub by-track : {t : tracking.Tracked} {whole : Bool} {made : Searched} → made ≡ searchedIf whole m hop w k l t → t ≡ tracked m (query w) now (l .accepted) → whole ≡ asked t → made ≡ searched granted m hop w k l
   unfolding searched
-  by-track {due = due} f e d =
-      let q : due ≡ isDue (tracked m hop w (l .accepted)) = d ∙ ap isDue e in
-      f ∙ (λ i. cond (q i) (wholeSearched hop w k (l .pending) (e i) (wholeSearch m (query w))) (locallySearched k l (e i)))
+  by-track {t} {whole} f e d =
+      let p : t ≡ tracked m (query w) (evidence hop w) (l .accepted) = e ∙ ap (λ (x : RecordedMs). tracked m (query w) x (l .accepted)) same in
+      let q : whole ≡ asked (tracked m (query w) (evidence hop w) (l .accepted)) = d ∙ ap asked p in
+      f ∙ (λ i. searchedIf (q i) m hop w k l (p i))
+
+  -- a whole search that found these
+  pub whole-made : (t : tracking.Tracked) {r : MatchResult} {made : Searched} → made ≡ wholeSearched hop now (endpointOf w) k (l .pending) t (listed r) → r ≡ resultOf (wholeSearch m (query w)) → made ≡ searchedIf true m hop w k l t
+  whole-made t f e = f ∙ (λ i. wholeSearched hop (same i) (endpointOf w) k (l .pending) t (listed-result (wholeSearch m (query w)) e i))
 
 -- without a track that may coast
-pub untracked : (m : Matcher) (hop : Float) (w : Window) (accepted : Hypothesis) {now : RecordedMs} {r : Bool} → evidence hop w ≡ now
+pub untracked : (m : Matcher) (q : Features) (now : RecordedMs) (accepted : Hypothesis) {r : Bool}
     → ((offset : Float) (first last : RecordedMs) (correlation : Float) → accepted ≡ hypothesis.Held offset first last correlation → r ≡ mayCoast now last)
-    → r ≡ false → unsupported hypothesis.Absent [] ≡ tracked m hop w accepted
+    → r ≡ false → unsupported hypothesis.Absent [] ≡ tracked m q now accepted
 unfolding tracked
-untracked m hop w hypothesis.Absent e h f = refl
-untracked m hop w (hypothesis.Held offset first last correlation) {now} e h f = dropped offset first last correlation now m hop w e (sym (h offset first last correlation refl) ∙ f)
+untracked m q now hypothesis.Absent h f = refl
+untracked m q now (hypothesis.Held offset first last correlation) h f = dropped offset first last correlation now m q (sym (h offset first last correlation refl) ∙ f)
 
 -- ---- what is handed on from call to call
 -- the room of buffers that kept their lengths
@@ -92,8 +78,8 @@ room-kept {s} {x} {w} {room32} {now64 = now64} e f r = subst (λ (k : ℕ). Room
 pub filled-of : {x y : Reference} {w : Features} {filled : Bool} {work32 work64 : List Float} → x ≡ y → FilledQuery x w filled work32 work64 → FilledQuery y w filled work32 work64
 filled-of {w = w} {filled} {work32} {work64} e f = subst (λ (z : Reference). FilledQuery z w filled work32 work64) e f
 
-module _ (offset : Float) (first last : RecordedMs) (correlation : Float) (now : RecordedMs) (m : Matcher) (hop : Float) (w : Window) (e : evidence hop w ≡ now) where
+module _ (offset : Float) (first last : RecordedMs) (correlation : Float) (now : RecordedMs) (m : Matcher) (q : Features) where
   pub coasted : {r : MatchResult} {made : tracking.Tracked} → made ≡ followed offset first last correlation now (listed r)
-      → r ≡ resultOf (localSearch (m .reference) (m .fine) (query w) (offset ⊖ localMs) (offset ⊕ localMs)) → mayCoast now last ≡ true
-      → made ≡ tracked m hop w (hypothesis.Held offset first last correlation)
-  coasted d f h = d ∙ ap (λ (x : List Candidate). followed offset first last correlation now x) (listed-result (localSearch (m .reference) (m .fine) (query w) (offset ⊖ localMs) (offset ⊕ localMs)) f) ∙ coasting offset first last correlation now m hop w e h
+      → r ≡ resultOf (localSearch (m .reference) (m .fine) q (offset ⊖ localMs) (offset ⊕ localMs)) → mayCoast now last ≡ true
+      → made ≡ tracked m q now (hypothesis.Held offset first last correlation)
+  coasted d f h = d ∙ ap (λ (x : List Candidate). followed offset first last correlation now x) (listed-result (localSearch (m .reference) (m .fine) q (offset ⊖ localMs) (offset ⊕ localMs)) f) ∙ coasting offset first last correlation now m q h

@@ -2,25 +2,24 @@
 ghost use Prim.Native.Nat.{_*_, _<_, _≤_};
 ghost use lib.Ieee.{Float};
 ghost use lib.ListN.{length};
-ghost use mathlib.Core.Bool.{cond, false, true};
+ghost use mathlib.Core.Bool.{false, true};
 ghost use mathlib.Core.List.{[]};
 ghost use mathlib.Core.Path.{_≡_};
-ghost use Rattle.matcher_spec.specs.Search.{FilledQuery, wholeSearch, InRange, WorkRoom};
+ghost use Rattle.matcher_spec.specs.Search.{FilledQuery, InRange, WorkRoom};
 ghost use Rattle.matcher_spec.specs.Features.{features};
 ghost use Rattle.engine_spec.specs.declared.types.RecordedMs as recorded;
 ghost use Rattle.engine_spec.specs.declared.types.Hypothesis.the-variants as hypothesis;
-ghost use Rattle.engine_spec.specs.Windows.{matcherIn, query, referenceOf};
+ghost use Rattle.engine_spec.specs.Windows.{evidence, matcherIn, query, referenceOf};
 ghost use Rattle.engine_spec.specs.Tracking.{mayCoast, tracked, unsupported};
-ghost use Rattle.engine_spec.specs.Locking.{locallySearched, searched, wholeSearched};
+ghost use Rattle.engine_spec.specs.Locking.{searched, searchedIf};
 ghost use Rattle.matcher_spec.specs.Index.{lent};
 ghost use Rattle.engine_spec.specs.Lent.{window};
 ghost use Rattle.engine_spec.specs.Room.{Room};
-ghost use Rattle.engine_lock.specs.Views.{reachedIn, searchedIn, trackedIn};
+ghost use Rattle.engine_lock.specs.Views.{searchedIn, trackedIn};
 ghost use Rattle.matcher_spec.specs.Limits.{candidatesMost};
-use engine_lock::kinds::Reached;
 use engine_lock::kinds::Searched;
 use engine_lock::kinds::Tracked;
-use engine_lock::rules::is_whole_due;
+use engine_lock::rules::is_due;
 use engine_lock::rules::locally_searched;
 use engine_lock::rules::whole_searched;
 use engine_lock::track::evidence;
@@ -30,6 +29,7 @@ use engine_lock::track::unsupported;
 use engine_spec::thresholds::LOCAL_MS;
 use engine_spec::types::Hypothesis;
 use engine_spec::types::Lock;
+use engine_spec::types::Reached;
 use engine_spec::types::RecordedMs;
 use engine_spec::types::Settings;
 use matcher::local::local_found;
@@ -39,8 +39,9 @@ use matcher_picks::candidates::nothing_found;
 use matcher_spec::types::Reference;
 
 // A local search for the track, if there is one that may still coast, then a whole search, if one is
-// due.
+// granted and due.
 pub fn searched(
+    granted: bool,
     settings: Settings,
     fine: &[f32],
     coarse: &[f32],
@@ -56,16 +57,15 @@ pub fn searched(
     work64: &mut [f64],
 ) -> Searched
     requires { ⌜ Room settings (lent (now fine) (now coarse) (now «fine_energy») (now «coarse_energy»)) (window bands (now times) (now energies) (now values)) (length (now work32)) (length (now work64)) ⌝ ∗ ⌜ 0 < settings .«reference_frames» ⌝ }
-    ensures { λ r. ⌜ searchedIn r ≡ searched (matcherIn settings (lent (now (fine .entry)) (now (coarse .entry)) (now («fine_energy» .entry)) (now («coarse_energy» .entry)))) (settings .«hop_ms») (window bands (now (times .entry)) (now (energies .entry)) (now (values .entry))) (reachedIn reached) lock ⌝ }
+    ensures { λ r. ⌜ searchedIn r ≡ searched granted (matcherIn settings (lent (now (fine .entry)) (now (coarse .entry)) (now («fine_energy» .entry)) (now («coarse_energy» .entry)))) (settings .«hop_ms») (window bands (now (times .entry)) (now (energies .entry)) (now (values .entry))) reached lock ⌝ }
     ensures { λ r. ⌜ r .found .count ≤ candidatesMost ⌝ }
 {
-    let n = times.len();
     let accepted = lock.accepted;
-    if !is_coasting(
-        accepted,
-        evidence(settings.hop_ms, RecordedMs(times[n - 1])),
-    ) {
+    let evidence_ms = evidence(settings.hop_ms, RecordedMs(times[times.len() - 1]));
+    if !is_coasting(accepted, evidence_ms) {
         return without_track(
+            granted,
+            evidence_ms,
             settings,
             fine,
             coarse,
@@ -82,6 +82,8 @@ pub fn searched(
         );
     }
     with_track(
+        granted,
+        evidence_ms,
         settings,
         fine,
         coarse,
@@ -116,6 +118,8 @@ fn is_coasting(accepted: Hypothesis, now: RecordedMs) -> bool
 
 // With a track that may coast: the query serves the local search and the whole one.
 fn with_track(
+    granted: bool,
+    evidence_ms: RecordedMs,
     settings: Settings,
     fine: &[f32],
     coarse: &[f32],
@@ -131,16 +135,16 @@ fn with_track(
     work64: &mut [f64],
 ) -> Searched
     requires { ⌜ Room settings (lent (now fine) (now coarse) (now «fine_energy») (now «coarse_energy»)) (window bands (now times) (now energies) (now values)) (length (now work32)) (length (now work64)) ⌝ ∗ ⌜ 0 < settings .«reference_frames» ⌝ }
-    ensures { λ r. ⌜ searchedIn r ≡ searched (matcherIn settings (lent (now (fine .entry)) (now (coarse .entry)) (now («fine_energy» .entry)) (now («coarse_energy» .entry)))) (settings .«hop_ms») (window bands (now (times .entry)) (now (energies .entry)) (now (values .entry))) (reachedIn reached) lock ⌝ }
+    requires { ⌜ «evidence_ms» ≡ evidence (settings .«hop_ms») (window bands (now times) (now energies) (now values)) ⌝ }
+    ensures { λ r. ⌜ searchedIn r ≡ searched granted (matcherIn settings (lent (now (fine .entry)) (now (coarse .entry)) (now («fine_energy» .entry)) (now («coarse_energy» .entry)))) (settings .«hop_ms») (window bands (now (times .entry)) (now (energies .entry)) (now (values .entry))) reached lock ⌝ }
     ensures { λ r. ⌜ r .found .count ≤ candidatesMost ⌝ }
 {
-    let n = times.len();
-    let endpoint = RecordedMs(times[n - 1]);
+    let endpoint = RecordedMs(times[times.len() - 1]);
     let accepted = lock.accepted;
-    let last = lock.last_global_search_ms;
     let filled = fill_query(reference_of(settings), bands, times, values, work32, work64);
     let t = tracked(
         filled,
+        evidence_ms,
         settings,
         fine,
         coarse,
@@ -154,10 +158,11 @@ fn with_track(
         work32,
         work64,
     );
-    let due = is_whole_due(t.supported, endpoint, last);
+    let whole = granted & is_due(t.supported, endpoint, lock.last_global_search_ms);
     then_whole(
-        due,
+        whole,
         filled,
+        evidence_ms,
         settings,
         fine,
         coarse,
@@ -175,8 +180,10 @@ fn with_track(
     )
 }
 
-// Without one: the query is filled if a whole search is due.
+// Without one: the query is filled if a whole search is made.
 fn without_track(
+    granted: bool,
+    evidence_ms: RecordedMs,
     settings: Settings,
     fine: &[f32],
     coarse: &[f32],
@@ -192,20 +199,20 @@ fn without_track(
     work64: &mut [f64],
 ) -> Searched
     requires { ⌜ Room settings (lent (now fine) (now coarse) (now «fine_energy») (now «coarse_energy»)) (window bands (now times) (now energies) (now values)) (length (now work32)) (length (now work64)) ⌝ ∗ ⌜ 0 < settings .«reference_frames» ⌝ }
-    requires { ⌜ unsupported hypothesis.Absent [] ≡ tracked (matcherIn settings (lent (now fine) (now coarse) (now «fine_energy») (now «coarse_energy»))) (settings .«hop_ms») (window bands (now times) (now energies) (now values)) (lock .accepted) ⌝ }
-    ensures { λ r. ⌜ searchedIn r ≡ searched (matcherIn settings (lent (now (fine .entry)) (now (coarse .entry)) (now («fine_energy» .entry)) (now («coarse_energy» .entry)))) (settings .«hop_ms») (window bands (now (times .entry)) (now (energies .entry)) (now (values .entry))) (reachedIn reached) lock ⌝ }
+    requires { ⌜ «evidence_ms» ≡ evidence (settings .«hop_ms») (window bands (now times) (now energies) (now values)) ⌝ }
+    requires { ⌜ unsupported hypothesis.Absent [] ≡ tracked (matcherIn settings (lent (now fine) (now coarse) (now «fine_energy») (now «coarse_energy»))) (query (window bands (now times) (now energies) (now values))) «evidence_ms» (lock .accepted) ⌝ }
+    ensures { λ r. ⌜ searchedIn r ≡ searched granted (matcherIn settings (lent (now (fine .entry)) (now (coarse .entry)) (now («fine_energy» .entry)) (now («coarse_energy» .entry)))) (settings .«hop_ms») (window bands (now (times .entry)) (now (energies .entry)) (now (values .entry))) reached lock ⌝ }
     ensures { λ r. ⌜ r .found .count ≤ candidatesMost ⌝ }
 {
-    let n = times.len();
-    let endpoint = RecordedMs(times[n - 1]);
-    let last = lock.last_global_search_ms;
-    let due = is_whole_due(false, endpoint, last);
+    let endpoint = RecordedMs(times[times.len() - 1]);
+    let whole = granted & is_due(false, endpoint, lock.last_global_search_ms);
     let reference = reference_of(settings);
-    let filled = fill_if(due, reference, bands, times, values, work32, work64);
+    let filled = fill_if(whole, reference, bands, times, values, work32, work64);
     let t = unsupported(Hypothesis::Absent, nothing_found());
     then_whole(
-        due,
+        whole,
         filled,
+        evidence_ms,
         settings,
         fine,
         coarse,
@@ -223,9 +230,9 @@ fn without_track(
     )
 }
 
-// Fills the query for a search that is due.
+// Fills the query for a whole search.
 fn fill_if(
-    due: bool,
+    whole: bool,
     reference: Reference,
     bands: usize,
     times: &[f64],
@@ -235,9 +242,9 @@ fn fill_if(
 ) -> bool
     requires { ⌜ InRange reference ⌝ }
     requires { ⌜ length (now values) ≡ bands * length (now times) ⌝ ∗ ⌜ WorkRoom reference bands (length (now times)) (now work32) (now work64) ⌝ }
-    ensures { λ r. ⌜ (due ≡ true → FilledQuery reference (features bands (now (times .entry)) (now (values .entry))) r (now (work32 .exit)) (now (work64 .exit))) ⌝ }
+    ensures { λ r. ⌜ (whole ≡ true → FilledQuery reference (features bands (now (times .entry)) (now (values .entry))) r (now (work32 .exit)) (now (work64 .exit))) ⌝ }
 {
-    if !due {
+    if !whole {
         return false;
     }
     fill_query(reference, bands, times, values, work32, work64)
@@ -247,6 +254,7 @@ fn fill_if(
 // dropped.
 fn tracked(
     filled: bool,
+    evidence_ms: RecordedMs,
     settings: Settings,
     fine: &[f32],
     coarse: &[f32],
@@ -262,12 +270,10 @@ fn tracked(
 ) -> Tracked
     requires { ⌜ Room settings (lent (now fine) (now coarse) (now «fine_energy») (now «coarse_energy»)) (window bands (now times) (now energies) (now values)) (length (now work32)) (length (now work64)) ⌝ ∗ ⌜ 0 < settings .«reference_frames» ⌝ }
     requires { ⌜ FilledQuery (referenceOf settings) (query (window bands (now times) (now energies) (now values))) filled (now work32) (now work64) ⌝ }
-    ensures { λ r. ⌜ trackedIn r ≡ tracked (matcherIn settings (lent (now (fine .entry)) (now (coarse .entry)) (now («fine_energy» .entry)) (now («coarse_energy» .entry)))) (settings .«hop_ms») (window bands (now (times .entry)) (now (energies .entry)) (now (values .entry))) accepted ⌝ }
+    ensures { λ r. ⌜ trackedIn r ≡ tracked (matcherIn settings (lent (now (fine .entry)) (now (coarse .entry)) (now («fine_energy» .entry)) (now («coarse_energy» .entry)))) (query (window bands (now (times .entry)) (now (energies .entry)) (now (values .entry)))) «evidence_ms» accepted ⌝ }
     ensures { λ r. ⌜ r .found .count ≤ candidatesMost ⌝ }
     ensures { λ _. ⌜ FilledQuery (referenceOf settings) (query (window bands (now (times .entry)) (now (energies .entry)) (now (values .entry)))) filled (now (work32 .entry)) (now (work64 .exit)) ⌝ }
 {
-    let n = times.len();
-    let now = evidence(settings.hop_ms, RecordedMs(times[n - 1]));
     match accepted {
         Hypothesis::Absent => unsupported(Hypothesis::Absent, nothing_found()),
         Hypothesis::Held {
@@ -276,7 +282,7 @@ fn tracked(
             last_evidence_ms,
             correlation,
         } => {
-            if !may_coast(now, last_evidence_ms) {
+            if !may_coast(evidence_ms, last_evidence_ms) {
                 return unsupported(Hypothesis::Absent, nothing_found());
             }
             let found = local_found(
@@ -297,17 +303,18 @@ fn tracked(
                 first_evidence_ms,
                 last_evidence_ms,
                 correlation,
-                now,
+                evidence_ms,
                 found,
             )
         }
     }
 }
 
-// A whole search by the window's query, if one is due.
+// After tracking: a whole search by the window's query, or none.
 fn then_whole(
-    due: bool,
+    whole: bool,
     filled: bool,
+    evidence_ms: RecordedMs,
     settings: Settings,
     fine: &[f32],
     coarse: &[f32],
@@ -324,15 +331,15 @@ fn then_whole(
     work64: &mut [f64],
 ) -> Searched
     requires { ⌜ Room settings (lent (now fine) (now coarse) (now «fine_energy») (now «coarse_energy»)) (window bands (now times) (now energies) (now values)) (length (now work32)) (length (now work64)) ⌝ ∗ ⌜ 0 < settings .«reference_frames» ⌝ ∗ ⌜ t .found .count ≤ candidatesMost ⌝ }
-    requires { ⌜ (due ≡ true → FilledQuery (referenceOf settings) (query (window bands (now times) (now energies) (now values))) filled (now work32) (now work64)) ⌝ }
-    ensures { λ r. ⌜ searchedIn r ≡ cond due (wholeSearched (settings .«hop_ms») (window bands (now (times .entry)) (now (energies .entry)) (now (values .entry))) (reachedIn reached) (lock .pending) (trackedIn t) (wholeSearch (matcherIn settings (lent (now (fine .entry)) (now (coarse .entry)) (now («fine_energy» .entry)) (now («coarse_energy» .entry)))) (query (window bands (now (times .entry)) (now (energies .entry)) (now (values .entry)))))) (locallySearched (reachedIn reached) lock (trackedIn t)) ⌝ }
+    requires { ⌜ (whole ≡ true → FilledQuery (referenceOf settings) (query (window bands (now times) (now energies) (now values))) filled (now work32) (now work64)) ⌝ }
+    requires { ⌜ «evidence_ms» ≡ evidence (settings .«hop_ms») (window bands (now times) (now energies) (now values)) ⌝ }
+    ensures { λ r. ⌜ searchedIn r ≡ searchedIf whole (matcherIn settings (lent (now (fine .entry)) (now (coarse .entry)) (now («fine_energy» .entry)) (now («coarse_energy» .entry)))) (settings .«hop_ms») (window bands (now (times .entry)) (now (energies .entry)) (now (values .entry))) reached lock (trackedIn t) ⌝ }
     ensures { λ r. ⌜ r .found .count ≤ candidatesMost ⌝ }
 {
-    if !due {
+    if !whole {
         return locally_searched(reached, lock, t);
     }
-    let n = times.len();
-    let endpoint = RecordedMs(times[n - 1]);
+    let endpoint = RecordedMs(times[times.len() - 1]);
     let pending = lock.pending;
     let found = whole_found(
         filled,
@@ -347,7 +354,15 @@ fn then_whole(
         work32,
         work64,
     );
-    whole_searched(settings.hop_ms, endpoint, reached, pending, t, found)
+    whole_searched(
+        settings.hop_ms,
+        evidence_ms,
+        endpoint,
+        reached,
+        pending,
+        t,
+        found,
+    )
 }
 
 fn reference_of(settings: Settings) -> Reference

@@ -1,11 +1,10 @@
 -- `engine_search::search::searched` meets its contract. Assumes nothing.
 use borrow.Author.Needs.{needs}
 use borrow.Author.Tests.{not-true}
-use mathlib.Core.Path.{sym, _∙_}
-use Rattle.engine_spec.specs.Windows.{matcherIn}
+use Rattle.engine_spec.specs.Windows.{matcherIn, query}
 use Rattle.matcher_spec.specs.Index.{lent}
 use Rattle.engine_spec.specs.Lent.{window}
-use Rattle.engine_search.proofs.SearchLaws.{evidence-ending, untracked}
+use Rattle.engine_search.proofs.SearchLaws.{untracked}
 use Rattle.engine_search.proofs.search.searched.Statement.{statement}
 use Rattle.engine_search.proofs.search.searched.Tie as tie
 
@@ -16,8 +15,7 @@ without-track-requires c κs =
     let s = a .settings in
     let m = matcherIn s (lent (a .fine .now) (a .coarse .now) (a .fine-energy .now) (a .coarse-energy .now)) in
     let w = window (a .bands) (a .times .now) (a .energies .now) (a .values .now) in
-    let e = sym (evidence-ending (s .«hop_ms») w) ∙ sym (c .before .before .before .before .evidence .ensures) in
-    (start .pre .0, (start .pre .1, untracked m (s .«hop_ms») w (a .lock .accepted) e (c .before .before .before .is-coasting .ensures .1) (not-true _ (c .before .before .if1 .taken))))
+    (start .pre .0, (start .pre .1, (c .before .before .before .before .evidence .ensures, untracked m (query w) _ (a .lock .accepted) (c .before .before .before .is-coasting .ensures .1) (not-true _ (c .before .before .if1 .taken)))))
 
 pub searched-spec : {M : Type 1} → statement M
 searched-spec =
