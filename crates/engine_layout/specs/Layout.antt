@@ -2,7 +2,8 @@
 --
 --   words of a state (106)    what
 --   0                         the layout number, 1
---   1 .. 9                    settings: configuration 5, hop, reference's frames, bands, start
+--   1 .. 5                    configuration
+--   6 .. 9                    settings: hop, reference's frames, bands, start
 --   10 .. 20                  lock: pending 5, accepted 5, time of the last whole search
 --   21 .. 26                  milestones: first provisional 2, confirmed 2, final 2
 --   27 .. 29                  last: endpoint 2, whether there is a snapshot
@@ -15,7 +16,7 @@
 --   9 .. 20                   diagnostics: 12 numbers, two of them with a tag before
 --   21 .. 60                  8 candidates of 5
 --   61 .. 69                  what the spectral search found
---   70 .. 75                  milestones
+--   70 .. 75                  milestones: as a state's
 --
 -- As words of a slice of its own a snapshot is 77: the layout number first.
 use Prim.Native.Nat.{ℕ, _%_, _^_}
@@ -208,16 +209,20 @@ unfoldable pub diagnosticsOf : List ℕ → Diagnostics
 diagnosticsOf w = diagnosticsWith (part 0 12 w) (candidatesOf (part 12 40 w)) (spectralOf (part 52 9 w))
 
 unfoldable pub snapshotOf : List ℕ → Snapshot
-snapshotOf w = record {
-  state = stateOf (getD w 0 0);
-  phase = phaseOf (getD w 1 0);
-  stage = stageOf (getD w 2 0);
-  estimate = estimateOf (part 3 4 w);
-  «withhold_reason» = reasonOf (getD w 7 0);
-  confidence = float (getD w 8 0);
-  diagnostics = diagnosticsOf (part 9 61 w);
-  milestones = milestonesOf (part 70 6 w);
-}
+snapshotOf w =
+    let m = milestonesOf (part 70 6 w) in
+    record {
+      state = stateOf (getD w 0 0);
+      phase = phaseOf (getD w 1 0);
+      stage = stageOf (getD w 2 0);
+      estimate = estimateOf (part 3 4 w);
+      «withhold_reason» = reasonOf (getD w 7 0);
+      confidence = float (getD w 8 0);
+      diagnostics = diagnosticsOf (part 9 61 w);
+      «first_provisional_lock_elapsed_ms» = m .«first_provisional_ms»;
+      «confirmed_lock_elapsed_ms» = m .«confirmed_ms»;
+      «final_lock_elapsed_ms» = m .«final_ms»;
+    }
 
 -- The snapshot in a slice of its own.
 abbrev pub snapshotIn : List ℕ → Snapshot
@@ -235,11 +240,10 @@ configurationOf w = record {
 
 unfoldable pub settingsOf : List ℕ → Settings
 settingsOf w = record {
-  configuration = configurationOf (part 0 5 w);
-  «hop_ms» = float (getD w 5 0);
-  «reference_frames» = countOf (getD w 6 0);
-  «reference_bands» = countOf (getD w 7 0);
-  «reference_start_ms» = record { 0 = float (getD w 8 0) };
+  «hop_ms» = float (getD w 0 0);
+  «reference_frames» = countOf (getD w 1 0);
+  «reference_bands» = countOf (getD w 2 0);
+  «reference_start_ms» = record { 0 = float (getD w 3 0) };
 }
 
 unfoldable pub lockOf : List ℕ → Lock
@@ -258,7 +262,8 @@ lastOf w = record {
 
 unfoldable pub engineOf : List ℕ → Engine
 engineOf w = record {
-  settings = settingsOf (part 0 9 w);
+  configuration = configurationOf (part 0 5 w);
+  settings = settingsOf (part 5 4 w);
   lock = lockOf (part 9 11 w);
   milestones = milestonesOf (part 20 6 w);
   last = lastOf (part 26 79 w);

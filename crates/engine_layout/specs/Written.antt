@@ -6,6 +6,8 @@ use lib.ListN.{length, take, drop, getD}
 use lib.Ieee.{nan}
 use Rattle.matcher_spec.specs.Limits.{candidatesMost}
 use Rattle.engine_layout.specs.Layout.{word}
+use Rattle.engine_spec.specs.Milestones.{milestonesShown}
+use Rattle.engine_spec.specs.declared.types.Configuration.{Configuration}
 use Rattle.engine_spec.specs.declared.types.Settings.{Settings}
 use Rattle.engine_spec.specs.declared.types.Lock.{Lock}
 use Rattle.engine_spec.specs.declared.types.Milestones.{Milestones}
@@ -175,21 +177,20 @@ shownWords s =
     ++ estimateWords (s .estimate)
     ++ (reasonWord (s .«withhold_reason») ∷ word (s .confidence) ∷ [])
     ++ diagnosticsWords (s .diagnostics)
-    ++ milestonesWords (s .milestones)
+    ++ milestonesWords (milestonesShown s)
 
 -- ---- a state
-unfoldable pub settingsWords : Settings → List ℕ
-settingsWords s =
-    word (s .configuration .«minimum_readiness_duration_ms»)
-    ∷ word (s .configuration .«tracking_query_duration_ms»)
-    ∷ word (s .configuration .«minimum_active_frame_energy_dbfs»)
-    ∷ word (s .configuration .«minimum_average_energy_dbfs»)
-    ∷ word (s .configuration .«minimum_active_frame_fraction»)
-    ∷ word (s .«hop_ms»)
-    ∷ s .«reference_frames»
-    ∷ s .«reference_bands»
-    ∷ word (s .«reference_start_ms» .0)
+unfoldable pub configurationWords : Configuration → List ℕ
+configurationWords c =
+    word (c .«minimum_readiness_duration_ms»)
+    ∷ word (c .«tracking_query_duration_ms»)
+    ∷ word (c .«minimum_active_frame_energy_dbfs»)
+    ∷ word (c .«minimum_average_energy_dbfs»)
+    ∷ word (c .«minimum_active_frame_fraction»)
     ∷ []
+
+unfoldable pub settingsWords : Settings → List ℕ
+settingsWords s = word (s .«hop_ms») ∷ s .«reference_frames» ∷ s .«reference_bands» ∷ word (s .«reference_start_ms» .0) ∷ []
 
 unfoldable pub lockWords : Lock → List ℕ
 lockWords l = hypothesisWords (l .pending) ++ hypothesisWords (l .accepted) ++ (word (l .«last_global_search_ms» .0) ∷ [])
@@ -198,7 +199,7 @@ unfoldable pub lastWords : Last → List ℕ
 lastWords l = (endpointTag (l .«endpoint_ms») ∷ endpointWord (l .«endpoint_ms») ∷ boolWord (l .«has_snapshot») ∷ []) ++ shownWords (l .snapshot)
 
 unfoldable pub engineWords : Engine → List ℕ
-engineWords e = settingsWords (e .settings) ++ lockWords (e .lock) ++ milestonesWords (e .milestones) ++ lastWords (e .last)
+engineWords e = configurationWords (e .configuration) ++ settingsWords (e .settings) ++ lockWords (e .lock) ++ milestonesWords (e .milestones) ++ lastWords (e .last)
 
 -- ---- in a slice
 -- The row with ys in the place of as many elements from `at` on.
