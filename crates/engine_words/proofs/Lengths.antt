@@ -9,6 +9,8 @@ use Rattle.engine_spec.specs.declared.types.SpectralDiagnostics.{SpectralDiagno
 use Rattle.engine_spec.specs.declared.types.CandidateDiagnostics.{CandidateDiagnostics}
 use Rattle.engine_spec.specs.declared.types.Milestones.{Milestones}
 use Rattle.engine_spec.specs.declared.types.Snapshot.{Snapshot}
+use Rattle.engine_spec.specs.Milestones.{milestonesShown}
+use Rattle.engine_spec.specs.declared.types.Configuration.{Configuration}
 use Rattle.engine_spec.specs.declared.types.Settings.{Settings}
 use Rattle.engine_spec.specs.declared.types.Lock.{Lock}
 use Rattle.engine_spec.specs.declared.types.Last.{Last}
@@ -18,7 +20,7 @@ use Rattle.engine_spec.specs.declared.types.Estimate.the-variants as estimate
 use Rattle.engine_spec.specs.declared.types.Hypothesis.{Hypothesis}
 use Rattle.engine_spec.specs.declared.types.Hypothesis.the-variants as hypothesis
 use Rattle.engine_layout.specs.Layout.{word}
-use Rattle.engine_layout.specs.Written.{boolWord, stateWord, phaseWord, stageWord, reasonWord, endpointTag, endpointWord, estimateWords, hypothesisWords, milestonesWords, spectralWords, candidateWords, candidatesTo, diagnosticsNumbers, diagnosticsWords, shownWords, settingsWords, lockWords, lastWords, engineWords}
+use Rattle.engine_layout.specs.Written.{boolWord, stateWord, phaseWord, stageWord, reasonWord, endpointTag, endpointWord, estimateWords, hypothesisWords, milestonesWords, spectralWords, candidateWords, candidatesTo, diagnosticsNumbers, diagnosticsWords, shownWords, configurationWords, settingsWords, lockWords, lastWords, engineWords}
 
 pub both-long : {n m : ℕ} (xs ys : List ℕ) → length xs ≡ n → length ys ≡ m → length (xs ++ ys) ≡ n + m
 both-long {m = m} xs ys p q = length-append xs ys ∙ ap (λ (k : ℕ). length xs + k) q ∙ ap (λ (k : ℕ). k + m) p
@@ -63,9 +65,13 @@ shown-long s =
     let e = estimateWords (s .estimate) in
     let r : List ℕ = reasonWord (s .«withhold_reason») ∷ word (s .confidence) ∷ [] in
     let d = diagnosticsWords (s .diagnostics) in
-    both-long (a ++ e ++ r ++ d) (milestonesWords (s .milestones)) (both-long (a ++ e ++ r) d (both-long (a ++ e) r (both-long a e refl (estimate-long (s .estimate))) refl) (diagnostics-long (s .diagnostics))) (milestones-long (s .milestones))
+    both-long (a ++ e ++ r ++ d) (milestonesWords (milestonesShown s)) (both-long (a ++ e ++ r) d (both-long (a ++ e) r (both-long a e refl (estimate-long (s .estimate))) refl) (diagnostics-long (s .diagnostics))) (milestones-long (milestonesShown s))
 
-pub settings-long : (s : Settings) → length (settingsWords s) ≡ 9
+pub configuration-long : (c : Configuration) → length (configurationWords c) ≡ 5
+unfolding configurationWords
+configuration-long c = refl
+
+pub settings-long : (s : Settings) → length (settingsWords s) ≡ 4
 unfolding settingsWords
 settings-long s = refl
 
@@ -83,7 +89,9 @@ last-long l = both-long (endpointTag (l .«endpoint_ms») ∷ endpointWord (l .�
 pub engine-long : (e : Engine) → length (engineWords e) ≡ 105
 unfolding engineWords
 engine-long e =
+    let c = configurationWords (e .configuration) in
     let s = settingsWords (e .settings) in
     let l = lockWords (e .lock) in
     let m = milestonesWords (e .milestones) in
-    both-long (s ++ l ++ m) (lastWords (e .last)) (both-long (s ++ l) m (both-long s l (settings-long (e .settings)) (lock-long (e .lock))) (milestones-long (e .milestones))) (last-long (e .last))
+    let fixed = both-long c s (configuration-long (e .configuration)) (settings-long (e .settings)) in
+    both-long (c ++ s ++ l ++ m) (lastWords (e .last)) (both-long (c ++ s ++ l) m (both-long (c ++ s) l fixed (lock-long (e .lock))) (milestones-long (e .milestones))) (last-long (e .last))

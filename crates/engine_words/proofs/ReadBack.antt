@@ -1,11 +1,12 @@
 -- What was written is read back, part by part. Assumes nothing.
-use Prim.Native.Nat.{ℕ, _+_}
+use Prim.Native.Nat.{ℕ, _+_, _≤_}
 use mathlib.Core.Path.{_≡_, refl, ap, _∙_}
 use mathlib.Core.Bool.{Bool, true, false}
 use mathlib.Core.List.{List, [], _∷_, _++_}
 use native.Mathlib.Omega.{arith}
 use lib.ListN.{length, drop, getD}
 use lib.Seq.{take-all, take-at, getD-at}
+use Rattle.engine_spec.specs.Milestones.{milestonesShown}
 use Rattle.engine_spec.specs.declared.types.Diagnostics.{Diagnostics}
 use Rattle.engine_spec.specs.declared.types.Snapshot.{Snapshot}
 use Rattle.engine_spec.specs.declared.types.Lock.{Lock}
@@ -21,7 +22,7 @@ use Rattle.engine_spec.specs.declared.types.Stage.{Stage}
 use Rattle.engine_spec.specs.declared.types.Stage.the-variants as stage
 use Rattle.engine_spec.specs.declared.types.WithholdReason.{WithholdReason}
 use Rattle.engine_spec.specs.declared.types.WithholdReason.the-variants as reason
-use Rattle.engine_layout.specs.Layout.{layout, float, boolOf, part, stateOf, phaseOf, stageOf, reasonOf, endpointOf, estimateOf, hypothesisOf, milestonesOf, spectralOf, candidatesOf, diagnosticsWith, diagnosticsOf, snapshotOf, snapshotIn, settingsOf, lockOf, lastOf, engineOf, stateIn}
+use Rattle.engine_layout.specs.Layout.{layout, float, boolOf, part, stateOf, phaseOf, stageOf, reasonOf, endpointOf, estimateOf, hypothesisOf, milestonesOf, spectralOf, candidatesOf, diagnosticsWith, diagnosticsOf, snapshotOf, snapshotIn, configurationOf, settingsOf, lockOf, lastOf, engineOf, stateIn}
 use Rattle.engine_layout.specs.Written.{boolWord, stateWord, phaseWord, stageWord, reasonWord, estimateWords, placed}
 use Rattle.engine_layout.proofs.Laws.{Laid, last-part, front-part, placed-tail}
 use Rattle.engine_words.proofs.Lengths.{both-long}
@@ -89,9 +90,10 @@ diagnostics-back d n c s ln lc ls pn pc ps =
 
 pub snapshot-back : (s : Snapshot) (x : Estimate) (a b c r f : ℕ) (d m : List ℕ) → length d ≡ 61 → length m ≡ 6
     → stateOf a ≡ s .state → phaseOf b ≡ s .phase → stageOf c ≡ s .stage → estimateOf (estimateWords x) ≡ s .estimate → reasonOf r ≡ s .«withhold_reason» → float f ≡ s .confidence
-    → diagnosticsOf d ≡ s .diagnostics → milestonesOf m ≡ s .milestones → snapshotOf ((a ∷ b ∷ c ∷ []) ++ estimateWords x ++ (r ∷ f ∷ []) ++ d ++ m) ≡ s
+    → diagnosticsOf d ≡ s .diagnostics → milestonesOf m ≡ milestonesShown s → snapshotOf ((a ∷ b ∷ c ∷ []) ++ estimateWords x ++ (r ∷ f ∷ []) ++ d ++ m) ≡ s
 unfolding snapshotOf estimateWords
 snapshot-back s estimate.Absent a b c r f d m ld lm pa pb pc px pr pf pd pm =
+    let em : milestonesOf (part 61 6 (d ++ m)) ≡ milestonesShown s = ap milestonesOf (last-part 61 6 d m ld lm) ∙ pm in
     λ i. record {
       state = pa i;
       phase = pb i;
@@ -100,9 +102,12 @@ snapshot-back s estimate.Absent a b c r f d m ld lm pa pb pc px pr pf pd pm =
       «withhold_reason» = pr i;
       confidence = pf i;
       diagnostics = (ap diagnosticsOf (front-part 0 61 d m (omega arith) ∙ whole 61 d ld) ∙ pd) i;
-      milestones = (ap milestonesOf (last-part 61 6 d m ld lm) ∙ pm) i;
+      «first_provisional_lock_elapsed_ms» = em i .«first_provisional_ms»;
+      «confirmed_lock_elapsed_ms» = em i .«confirmed_ms»;
+      «final_lock_elapsed_ms» = em i .«final_ms»;
     }
 snapshot-back s (estimate.At u v o) a b c r f d m ld lm pa pb pc px pr pf pd pm =
+    let em : milestonesOf (part 61 6 (d ++ m)) ≡ milestonesShown s = ap milestonesOf (last-part 61 6 d m ld lm) ∙ pm in
     λ i. record {
       state = pa i;
       phase = pb i;
@@ -111,7 +116,9 @@ snapshot-back s (estimate.At u v o) a b c r f d m ld lm pa pb pc px pr pf pd pm 
       «withhold_reason» = pr i;
       confidence = pf i;
       diagnostics = (ap diagnosticsOf (front-part 0 61 d m (omega arith) ∙ whole 61 d ld) ∙ pd) i;
-      milestones = (ap milestonesOf (last-part 61 6 d m ld lm) ∙ pm) i;
+      «first_provisional_lock_elapsed_ms» = em i .«first_provisional_ms»;
+      «confirmed_lock_elapsed_ms» = em i .«confirmed_ms»;
+      «final_lock_elapsed_ms» = em i .«final_ms»;
     }
 
 -- ---- a state
@@ -132,18 +139,23 @@ pub last-back : (l : Last) (a b c : ℕ) (s : List ℕ) → length s ≡ 76 → 
 unfolding lastOf
 last-back l a b c s n pe pb ps = λ i. record { «endpoint_ms» = pe i; «has_snapshot» = pb i; snapshot = (ap snapshotOf (whole 76 s n) ∙ ps) i }
 
-pub engine-back : (e : Engine) (s l m t : List ℕ) → length s ≡ 9 → length l ≡ 11 → length m ≡ 6 → length t ≡ 79
-    → settingsOf s ≡ e .settings → lockOf l ≡ e .lock → milestonesOf m ≡ e .milestones → lastOf t ≡ e .last → engineOf (s ++ l ++ m ++ t) ≡ e
+pub engine-back : (e : Engine) (c s l m t : List ℕ) → length c ≡ 5 → length s ≡ 4 → length l ≡ 11 → length m ≡ 6 → length t ≡ 79
+    → configurationOf c ≡ e .configuration → settingsOf s ≡ e .settings → lockOf l ≡ e .lock → milestonesOf m ≡ e .milestones → lastOf t ≡ e .last → engineOf (c ++ s ++ l ++ m ++ t) ≡ e
 unfolding engineOf
-engine-back e s l m t ns nl nm nt ps pl pm pt =
-    let a : length (s ++ l) ≡ 20 = both-long s l ns nl in
-    let b : length (s ++ l ++ m) ≡ 26 = both-long (s ++ l) m a nm in
-    let es : part 0 9 (s ++ l ++ m ++ t) ≡ s =
-    front-part 0 9 (s ++ l ++ m) t (omega arith) ∙ front-part 0 9 (s ++ l) m (omega arith) ∙ front-part 0 9 s l (omega arith) ∙ whole 9 s ns in
-    let el : part 9 11 (s ++ l ++ m ++ t) ≡ l = front-part 9 11 (s ++ l ++ m) t (omega arith) ∙ front-part 9 11 (s ++ l) m (omega arith) ∙ last-part 9 11 s l ns nl in
-    let em : part 20 6 (s ++ l ++ m ++ t) ≡ m = front-part 20 6 (s ++ l ++ m) t (omega arith) ∙ last-part 20 6 (s ++ l) m a nm in
-    let et : part 26 79 (s ++ l ++ m ++ t) ≡ t = last-part 26 79 (s ++ l ++ m) t b nt in
+engine-back e c s l m t nc ns nl nm nt pc ps pl pm pt =
+    let n9 : length (c ++ s) ≡ 9 = both-long c s nc ns in
+    let n20 : length (c ++ s ++ l) ≡ 20 = both-long (c ++ s) l n9 nl in
+    let n26 : length (c ++ s ++ l ++ m) ≡ 26 = both-long (c ++ s ++ l) m n20 nm in
+    -- what comes after the settings does not count for the first two
+    let front : (a k : ℕ) → a + k ≤ 9 → part a k (c ++ s ++ l ++ m ++ t) ≡ part a k (c ++ s) =
+    λ a k h. front-part a k (c ++ s ++ l ++ m) t (omega arith) ∙ front-part a k (c ++ s ++ l) m (omega arith) ∙ front-part a k (c ++ s) l (omega arith) in
+    let ec : part 0 5 (c ++ s ++ l ++ m ++ t) ≡ c = front 0 5 (omega arith) ∙ front-part 0 5 c s (omega arith) ∙ whole 5 c nc in
+    let es : part 5 4 (c ++ s ++ l ++ m ++ t) ≡ s = front 5 4 (omega arith) ∙ last-part 5 4 c s nc ns in
+    let el : part 9 11 (c ++ s ++ l ++ m ++ t) ≡ l = front-part 9 11 (c ++ s ++ l ++ m) t (omega arith) ∙ front-part 9 11 (c ++ s ++ l) m (omega arith) ∙ last-part 9 11 (c ++ s) l n9 nl in
+    let em : part 20 6 (c ++ s ++ l ++ m ++ t) ≡ m = front-part 20 6 (c ++ s ++ l ++ m) t (omega arith) ∙ last-part 20 6 (c ++ s ++ l) m n20 nm in
+    let et : part 26 79 (c ++ s ++ l ++ m ++ t) ≡ t = last-part 26 79 (c ++ s ++ l ++ m) t n26 nt in
     λ i. record {
+      configuration = (ap configurationOf ec ∙ pc) i;
       settings = (ap settingsOf es ∙ ps) i;
       lock = (ap lockOf el ∙ pl) i;
       milestones = (ap milestonesOf em ∙ pm) i;

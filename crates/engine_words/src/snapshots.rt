@@ -2,6 +2,7 @@
 ghost use mathlib.Core.Path.{_≡_};
 ghost use Prim.Native.Nat.{_+_, _≤_};
 ghost use lib.ListN.{drop, length};
+ghost use Rattle.engine_spec.specs.Milestones.{milestonesShown};
 ghost use Rattle.engine_layout.specs.Layout.{diagnosticsOf, diagnosticsWith, milestonesOf, snapshotIn, snapshotOf, spectralOf};
 ghost use Rattle.engine_layout.specs.Written.{diagnosticsNumbers, diagnosticsWords, milestonesWords, placed, shownWords, spectralWords};
 use engine_layout::candidates::candidates_of;
@@ -74,8 +75,7 @@ pub fn put_snapshot(words: &mut [u64], at: usize, s: Snapshot)
     put(words, at + 7, &support);
     let diagnostics = s.diagnostics;
     put_diagnostics(words, at + 9, diagnostics);
-    let milestones = s.milestones;
-    let readings = milestones_words(milestones);
+    let readings = shown_milestones_words(s);
     put(words, at + 70, &readings);
 }
 
@@ -91,6 +91,9 @@ pub fn snapshot_of(words: &[u64]) -> Snapshot
     let confidence = word_float(words[8]);
     let diagnostics = diagnostics_of(&words[9..70]);
     let milestones = milestones_of(&words[70..76]);
+    let first = milestones.first_provisional_ms;
+    let confirmed = milestones.confirmed_ms;
+    let last = milestones.final_ms;
     Snapshot {
         state,
         phase,
@@ -99,8 +102,25 @@ pub fn snapshot_of(words: &[u64]) -> Snapshot
         withhold_reason,
         confidence,
         diagnostics,
-        milestones,
+        first_provisional_lock_elapsed_ms: first,
+        confirmed_lock_elapsed_ms: confirmed,
+        final_lock_elapsed_ms: last,
     }
+}
+
+// As an engine's three are written.
+fn shown_milestones_words(s: Snapshot) -> [u64; 6]
+    ensures { λ r. ⌜ r ≡ milestonesWords (milestonesShown s) ⌝ }
+    ensures back { λ r. ⌜ milestonesOf r ≡ milestonesShown s ⌝ }
+{
+    let first_provisional_ms = s.first_provisional_lock_elapsed_ms;
+    let confirmed_ms = s.confirmed_lock_elapsed_ms;
+    let final_ms = s.final_lock_elapsed_ms;
+    milestones_words(Milestones {
+        first_provisional_ms,
+        confirmed_ms,
+        final_ms,
+    })
 }
 
 pub fn milestones_words(m: Milestones) -> [u64; 6]

@@ -4,7 +4,7 @@ ghost use Prim.Native.Nat.{_+_, _≤_};
 ghost use lib.ListN.{drop, length};
 ghost use Rattle.engine_spec.specs.Opening.{noEngine};
 ghost use Rattle.engine_layout.specs.Layout.{configurationOf, engineOf, lastOf, lockOf, settingsOf, stateIn};
-ghost use Rattle.engine_layout.specs.Written.{engineWords, lastWords, lockWords, placed, settingsWords};
+ghost use Rattle.engine_layout.specs.Written.{configurationWords, engineWords, lastWords, lockWords, placed, settingsWords};
 use crate::snapshots::LAYOUT;
 use crate::snapshots::milestones_of;
 use crate::snapshots::milestones_words;
@@ -67,9 +67,12 @@ fn put_engine(words: &mut [u64], e: Engine)
     ensures { λ _. ⌜ now (words .exit) ≡ placed 1 (engineWords e) (now (words .entry)) ⌝ }
     ensures back { λ _. ⌜ engineOf (engineWords e) ≡ e ⌝ }
 {
+    let configuration = e.configuration;
+    let demands = configuration_words(configuration);
+    put(words, 1, &demands);
     let settings = e.settings;
     let fixed = settings_words(settings);
-    put(words, 1, &fixed);
+    put(words, 6, &fixed);
     let lock = e.lock;
     put_lock(words, 10, lock);
     let milestones = e.milestones;
@@ -83,11 +86,13 @@ fn engine_of(words: &[u64]) -> Engine
     requires { ⌜ length (now words) ≡ 105 ⌝ }
     ensures { λ r. ⌜ r ≡ engineOf (now (words .entry)) ⌝ }
 {
-    let settings = settings_of(&words[0..9]);
+    let configuration = configuration_of(&words[0..5]);
+    let settings = settings_of(&words[5..9]);
     let lock = lock_of(&words[9..20]);
     let milestones = milestones_of(&words[20..26]);
     let last = last_of(&words[26..105]);
     Engine {
+        configuration,
         settings,
         lock,
         milestones,
@@ -95,39 +100,17 @@ fn engine_of(words: &[u64]) -> Engine
     }
 }
 
-fn settings_words(s: Settings) -> [u64; 9]
-    ensures { λ r. ⌜ r ≡ settingsWords s ⌝ }
-    ensures back { λ r. ⌜ settingsOf r ≡ s ⌝ }
+fn configuration_words(c: Configuration) -> [u64; 5]
+    ensures { λ r. ⌜ r ≡ configurationWords c ⌝ }
+    ensures back { λ r. ⌜ configurationOf r ≡ c ⌝ }
 {
-    let c = s.configuration;
     [
         float_word(c.minimum_readiness_duration_ms),
         float_word(c.tracking_query_duration_ms),
         float_word(c.minimum_active_frame_energy_dbfs),
         float_word(c.minimum_average_energy_dbfs),
         float_word(c.minimum_active_frame_fraction),
-        float_word(s.hop_ms),
-        s.reference_frames as u64,
-        s.reference_bands as u64,
-        float_word(s.reference_start_ms.0),
     ]
-}
-
-// How many counts a u16 holds.
-const COUNTS: u64 = 0x1_0000;
-
-fn settings_of(words: &[u64]) -> Settings
-    requires { ⌜ length (now words) ≡ 9 ⌝ }
-    ensures { λ r. ⌜ r ≡ settingsOf (now (words .entry)) ⌝ }
-{
-    let configuration = configuration_of(&words[0..5]);
-    Settings {
-        configuration,
-        hop_ms: word_float(words[5]),
-        reference_frames: (words[6] % COUNTS) as u16,
-        reference_bands: (words[7] % COUNTS) as u16,
-        reference_start_ms: ReferenceMs(word_float(words[8])),
-    }
 }
 
 fn configuration_of(words: &[u64]) -> Configuration
@@ -140,6 +123,33 @@ fn configuration_of(words: &[u64]) -> Configuration
         minimum_active_frame_energy_dbfs: word_float(words[2]),
         minimum_average_energy_dbfs: word_float(words[3]),
         minimum_active_frame_fraction: word_float(words[4]),
+    }
+}
+
+fn settings_words(s: Settings) -> [u64; 4]
+    ensures { λ r. ⌜ r ≡ settingsWords s ⌝ }
+    ensures back { λ r. ⌜ settingsOf r ≡ s ⌝ }
+{
+    [
+        float_word(s.hop_ms),
+        s.reference_frames as u64,
+        s.reference_bands as u64,
+        float_word(s.reference_start_ms.0),
+    ]
+}
+
+// How many counts a u16 holds.
+const COUNTS: u64 = 0x1_0000;
+
+fn settings_of(words: &[u64]) -> Settings
+    requires { ⌜ length (now words) ≡ 4 ⌝ }
+    ensures { λ r. ⌜ r ≡ settingsOf (now (words .entry)) ⌝ }
+{
+    Settings {
+        hop_ms: word_float(words[0]),
+        reference_frames: (words[1] % COUNTS) as u16,
+        reference_bands: (words[2] % COUNTS) as u16,
+        reference_start_ms: ReferenceMs(word_float(words[3])),
     }
 }
 

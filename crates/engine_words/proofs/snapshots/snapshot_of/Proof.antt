@@ -15,7 +15,9 @@ returns c =
       «withhold_reason» = c .before .before .before .before .before .before .reason-of .ensures i;
       confidence = c .before .before .before .before .word-float .ensures i;
       diagnostics = c .before .before .diagnostics-of .ensures i;
-      milestones = c .milestones-of .ensures i;
+      «first_provisional_lock_elapsed_ms» = c .milestones-of .ensures i .«first_provisional_ms»;
+      «confirmed_lock_elapsed_ms» = c .milestones-of .ensures i .«confirmed_ms»;
+      «final_lock_elapsed_ms» = c .milestones-of .ensures i .«final_ms»;
     }
 
 pub snapshot-of-spec : {M : Type 1} → statement M
