@@ -1,9 +1,8 @@
 -- A recorded session's answers are the recorded ones. Assumes nothing.
 use mathlib.Core.List.{List, [], _∷_}
 use mathlib.Core.Path.{_≡_, refl, ap, ap₂, _∙_}
-use Rattle.engine_spec.specs.Chain.{Answered}
-use Rattle.engine_spec.specs.Guarantee.{answersTo}
-use Rattle.engine_spec.specs.Refusals.{Submission}
+use Rattle.engine_spec.specs.Lists.{Answered, answersTo}
+use Rattle.engine_spec.specs.Windows.{Submission}
 use Rattle.engine_spec.specs.declared.types.Engine.{Engine}
 use Rattle.engine_spec.specs.declared.types.SubmitResult.{SubmitResult}
 use Rattle.engine_sessions.specs.Session.{Reply, refusal, again, answered, outcome, Turn, after, AllWork, end, turn, submissions, replied, allReplied, AnswersRecorded}

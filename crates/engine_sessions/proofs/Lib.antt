@@ -1,3 +1,4 @@
 pub mod ByAChain
 pub mod Answers
 pub mod NotEmpty
+pub mod Made

@@ -1,15 +1,18 @@
 -- The guarantee is not empty: the session `ByAChain` is a list such as it speaks of, and locks. Assumes nothing.
-use Prim.Native.Nat.{ℕ, _<_}
+use Prim.Native.Nat.{ℕ, zero, suc, _≤_, _<_}
 use mathlib.Core.List.{List}
 use mathlib.Core.Path.{_≡_, refl, sym, ap, _∙_, subst}
+use native.Mathlib.Omega.{arith}
 use lib.Dec.{T, lit<}
-use lib.ListN.{length, getD}
+use lib.ListN.{length}
 use lib.Ieee.{Float, binary32, fits}
 use Rattle.numbers_spec.specs.Rows.{Every, F32, every}
-use Rattle.engine_spec.specs.Chain.{Answered}
-use Rattle.engine_spec.specs.Guarantee.{remaining, isComputed, AllHanded, nothing, next, Handed, unanswered}
-use Rattle.engine_spec.specs.Opening.{opening, openedSettings, matcherOfReference}
+use Rattle.engine_spec.specs.Cases.{isNone, interrupting, isComputed}
 use Rattle.engine_spec.specs.Windows.{Window}
+use Rattle.engine_spec.specs.Opening.{opening, openedSettings, matcherOfReference}
+use Rattle.engine_spec.specs.Lists.{Answered, remaining}
+use Rattle.engine_spec.specs.Chain.{passes, bestOffset, wholeAt, Passes, Unbroken, Latest, neighbouring, keeping, Chain}
+use Rattle.engine_spec.specs.Guarantee.{AllHanded, nothing, next, Handed}
 use Rattle.engine_spec.specs.declared.types.ClockMs.{ClockMs}
 use Rattle.engine_spec.specs.declared.types.State.the-variants as state
 use Rattle.engine_spec.specs.declared.types.Answer.the-variants as answer
@@ -18,7 +21,7 @@ use Rattle.engine_spec.proofs.Openings.{opened-filled}
 use Rattle.engine_spec.proofs.Run.{guarantee}
 use Rattle.engine_sessions.specs.Computed.{submitNow}
 use Rattle.engine_sessions.specs.Session.{roomFor, submissions, replied, allReplied}
-use Rattle.engine_sessions.specs.NotEmpty.{left, Locks}
+use Rattle.engine_sessions.specs.NotEmpty.{left, answerAt, EndsLongChain, CoastsAt, Locks}
 use Rattle.engine_sessions.specs.ByAChain.{configuration, hop, reference, index, window1, window2, window3, window4, window5, window6, window7, window8, session}
 use Rattle.engine_sessions.proofs.ByAChain.{recorded}
 use Rattle.engine_sessions.proofs.Answers.{answers-recorded}
@@ -37,10 +40,10 @@ reference-held = all-f32 (reference .values) tt
 
 -- ---- each submission has the index that opening filled
 handed : {room32 room64 : ℕ} (w : Window) (clock : ClockMs) → Every F32 (w .values)
-    → Handed (openedSettings configuration hop reference) (matcherOfReference hop reference) (record { index = index; window = w; clock = clock; room32 = room32; room64 = room64 })
+    → Handed (openedSettings hop reference) (matcherOfReference hop reference) (record { index = index; window = w; clock = clock; room32 = room32; room64 = room64 })
 handed w clock h = record { index = λ there fits. opened-filled configuration hop reference (roomFor reference) opened there; held = h }
 
-all-handed : AllHanded (openedSettings configuration hop reference) (matcherOfReference hop reference) (submissions (session .turns))
+all-handed : AllHanded (openedSettings hop reference) (matcherOfReference hop reference) (submissions (session .turns))
 unfolding submissions submitNow fits
 all-handed =
     next (handed window1 _ (all-f32 (window1 .values) tt))
@@ -58,30 +61,74 @@ recordedLeft = remaining (allReplied (session .turns))
 left-is : left session ≡ recordedLeft
 left-is = ap remaining (answers-recorded session recorded)
 
-some-recorded : 3 < length recordedLeft
+some-recorded : 4 < length recordedLeft
 unfolding remaining isComputed allReplied replied
 some-recorded = lit< tt
 
-locking-recorded : getD recordedLeft 2 unanswered .snapshot .state ≡ state.Locking
+locking-recorded : answerAt recordedLeft 2 .snapshot .state ≡ state.Locking
 unfolding remaining isComputed allReplied replied
 locking-recorded = refl
 
-locked-recorded : getD recordedLeft 3 unanswered .snapshot .state ≡ state.Locked
+locked-recorded : answerAt recordedLeft 3 .snapshot .state ≡ state.Locked
 unfolding remaining isComputed allReplied replied
 locked-recorded = refl
+
+-- ---- it ends a chain that the first began: these two pass, the second is no whole search, the third one that doesn't pass and is held
+abbrev recordedAt : ℕ → Answered
+recordedAt = answerAt recordedLeft
+
+chain-recorded : Chain hop recordedAt 0 3
+unfolding remaining isComputed allReplied replied interrupting passes bestOffset submitNow
+chain-recorded = record { order = omega arith; first = tt; last = tt; neighbours = neighbours; unbroken = unbroken; weak = weak; long = tt; recent = tt }
+  where
+    neighbours : (p q : ℕ) → 0 ≤ p → q ≤ 3 → Latest hop recordedAt p q → Passes hop recordedAt q → T (neighbouring hop recordedAt p q)
+    neighbours p zero h k l y = let b = l .before in absurd (omega arith)
+    neighbours p (suc zero) h k l y = absurd y
+    neighbours p (suc (suc zero)) h k l y = absurd y
+    neighbours zero (suc (suc (suc zero))) h k l y = tt
+    neighbours (suc zero) (suc (suc (suc zero))) h k l y = absurd (l .passed)
+    neighbours (suc (suc zero)) (suc (suc (suc zero))) h k l y = absurd (l .passed)
+    neighbours (suc (suc (suc p))) (suc (suc (suc zero))) h k l y = let b = l .before in absurd (omega arith)
+    neighbours p (suc (suc (suc (suc q)))) h k l y = absurd (omega arith)
+
+    unbroken : Unbroken hop recordedAt 0 3
+    unbroken zero h k = absurd (omega arith)
+    unbroken (suc zero) h k = tt
+    unbroken (suc (suc zero)) h k = tt
+    unbroken (suc (suc (suc zero))) h k = tt
+    unbroken (suc (suc (suc (suc n)))) h k = absurd (omega arith)
+
+    weak : (p n : ℕ) → 0 ≤ p → n < 3 → Latest hop recordedAt p n → T (wholeAt hop recordedAt n) → (Passes hop recordedAt n → ⊥) → T (keeping hop recordedAt p n)
+    weak p zero h k l w f = let b = l .before in absurd (omega arith)
+    weak p (suc zero) h k l w f = absurd w
+    weak zero (suc (suc zero)) h k l w f = tt
+    weak (suc zero) (suc (suc zero)) h k l w f = absurd (l .passed)
+    weak (suc (suc p)) (suc (suc zero)) h k l w f = let b = l .before in absurd (omega arith)
+    weak p (suc (suc (suc n))) h k l w f = absurd (omega arith)
+
+ends-recorded : EndsLongChain hop recordedAt 3
+unfolding remaining isComputed allReplied replied passes submitNow
+ends-recorded = record { first = 0; between = 2; after-first = lit< tt; before-last = lit< tt; whole = tt; fails = λ y. y; chain = chain-recorded }
+
+-- ---- the fifth coasts
+coasts-recorded : CoastsAt hop recordedAt 4
+unfolding remaining isComputed allReplied replied isNone
+coasts-recorded = record { locked = refl; withheld = tt; coasting = record { before = 3; is = refl; locked = refl; place = refl } }
 
 pub locks : Locks session
 locks =
     let promised = guarantee configuration hop reference (roomFor reference) reference-held opened (submissions (session .turns)) all-handed in
-    let some : 3 < length (left session) = subst (λ (l : List Answered). 3 < length l) (sym left-is) some-recorded in
-    let locked : getD (left session) 3 unanswered .snapshot .state ≡ state.Locked = ap (λ (l : List Answered). getD l 3 unanswered .snapshot .state) left-is ∙ locked-recorded in
+    let some : 4 < length (left session) = subst (λ (l : List Answered). 4 < length l) (sym left-is) some-recorded in
+    let locked : answerAt (left session) 3 .snapshot .state ≡ state.Locked = ap (λ (l : List Answered). answerAt l 3 .snapshot .state) left-is ∙ locked-recorded in
     record {
       held = reference-held;
       opened = opened;
       handed = all-handed;
       promised = promised;
       some = some;
-      locking = ap (λ (l : List Answered). getD l 2 unanswered .snapshot .state) left-is ∙ locking-recorded;
+      locking = ap (λ (l : List Answered). answerAt l 2 .snapshot .state) left-is ∙ locking-recorded;
       locked = locked;
-      chain = promised .trusted 3 some .locked locked;
+      chain = promised .trusted 3 (omega arith) .locked locked;
+      ends = subst (λ (l : List Answered). EndsLongChain hop (answerAt l) 3) (sym left-is) ends-recorded;
+      coasts = subst (λ (l : List Answered). CoastsAt hop (answerAt l) 4) (sym left-is) coasts-recorded;
     }

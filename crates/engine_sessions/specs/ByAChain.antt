@@ -18,7 +18,7 @@ use Rattle.engine_spec.specs.declared.types.Estimate.the-variants as estimate
 use Rattle.engine_spec.specs.declared.types.Maybe.the-variants as maybe
 use Rattle.engine_spec.specs.declared.types.Milestone.the-variants as milestone
 use Rattle.engine_spec.specs.declared.types.Hypothesis.the-variants as hypothesis
-use Rattle.engine_spec.specs.declared.types.Answer.the-variants as answer
+use Rattle.engine_spec.specs.declared.types.Refusal.the-variants as refusal
 use Rattle.engine_sessions.specs.Session.{Session, Turn, roomFor, heard, heardWithoutWork, eight, refusal, answered}
 
 abbrev pub configuration : Configuration
@@ -68,7 +68,9 @@ snapshot1 = record {
       «coast_ms» = fin false 0 (pos 0);
     };
   };
-  milestones = record { «first_provisional_ms» = milestone.At (record { 0 = fin false 1 (pos 0) }); «confirmed_ms» = milestone.Absent; «final_ms» = milestone.Absent };
+  «first_provisional_lock_elapsed_ms» = milestone.At (record { 0 = fin false 1 (pos 0) });
+  «confirmed_lock_elapsed_ms» = milestone.Absent;
+  «final_lock_elapsed_ms» = milestone.Absent;
 }
 
 abbrev pub turn1 : Turn
@@ -109,7 +111,9 @@ snapshot2 = record {
       «coast_ms» = fin false 0 (pos 0);
     };
   };
-  milestones = record { «first_provisional_ms» = milestone.At (record { 0 = fin false 1 (pos 0) }); «confirmed_ms» = milestone.Absent; «final_ms» = milestone.Absent };
+  «first_provisional_lock_elapsed_ms» = milestone.At (record { 0 = fin false 1 (pos 0) });
+  «confirmed_lock_elapsed_ms» = milestone.Absent;
+  «final_lock_elapsed_ms» = milestone.Absent;
 }
 
 abbrev pub turn2 : Turn
@@ -150,7 +154,9 @@ snapshot3 = record {
       «coast_ms» = fin false 0 (pos 0);
     };
   };
-  milestones = record { «first_provisional_ms» = milestone.At (record { 0 = fin false 1 (pos 0) }); «confirmed_ms» = milestone.Absent; «final_ms» = milestone.Absent };
+  «first_provisional_lock_elapsed_ms» = milestone.At (record { 0 = fin false 1 (pos 0) });
+  «confirmed_lock_elapsed_ms» = milestone.Absent;
+  «final_lock_elapsed_ms» = milestone.Absent;
 }
 
 abbrev pub turn3 : Turn
@@ -161,7 +167,7 @@ abbrev pub window4 : Window
 window4 = record { bands = 1; times = fin false 125 (pos 4) ∷ fin false 1125 (pos 1) ∷ fin false 625 (pos 2) ∷ fin false 1375 (pos 1) ∷ fin false 375 (pos 3) ∷ fin false 1625 (pos 1) ∷ fin false 875 (pos 2) ∷ fin false 1875 (pos 1) ∷ fin false 125 (pos 5) ∷ fin false 2125 (pos 1) ∷ fin false 1125 (pos 2) ∷ fin false 2375 (pos 1) ∷ fin false 625 (pos 3) ∷ fin false 2625 (pos 1) ∷ fin false 1375 (pos 2) ∷ fin false 2875 (pos 1) ∷ fin false 375 (pos 4) ∷ fin false 3125 (pos 1) ∷ fin false 1625 (pos 2) ∷ []; energies = fin true 5 (pos 2) ∷ inf true ∷ inf true ∷ inf true ∷ inf true ∷ inf true ∷ fin true 23 (pos 0) ∷ inf true ∷ inf true ∷ inf true ∷ inf true ∷ inf true ∷ fin true 13 (pos 1) ∷ inf true ∷ inf true ∷ inf true ∷ inf true ∷ inf true ∷ fin true 29 (pos 0) ∷ []; values = fin false 15 (negsuc 1) ∷ fin false 1 (negsuc 1) ∷ fin false 1 (pos 1) ∷ fin false 0 (pos 0) ∷ fin false 3 (negsuc 0) ∷ fin false 1 (negsuc 1) ∷ fin false 1 (pos 1) ∷ fin false 1 (negsuc 1) ∷ fin false 1 (negsuc 0) ∷ fin false 1 (negsuc 1) ∷ fin false 1 (pos 1) ∷ fin false 1 (negsuc 1) ∷ fin false 1 (pos 1) ∷ fin false 3 (negsuc 0) ∷ fin false 3 (pos 0) ∷ fin false 1 (negsuc 0) ∷ fin false 1 (negsuc 1) ∷ fin false 15 (negsuc 1) ∷ fin false 1 (pos 0) ∷ [] }
 
 abbrev pub turn4 : Turn
-turn4 = record { submission = heardWithoutWork index window4 (fin false 1 (pos 2)); reply = refusal answer.WorkTooShort }
+turn4 = record { submission = heardWithoutWork index window4 (fin false 1 (pos 2)); reply = refusal refusal.WorkTooShort }
 
 -- ---- 5, a second passing search: a lock
 abbrev pub window5 : Window
@@ -198,7 +204,9 @@ snapshot5 = record {
       «coast_ms» = fin false 0 (pos 0);
     };
   };
-  milestones = record { «first_provisional_ms» = milestone.At (record { 0 = fin false 1 (pos 0) }); «confirmed_ms» = milestone.At (record { 0 = fin false 5 (pos 0) }); «final_ms» = milestone.At (record { 0 = fin false 5 (pos 0) }) };
+  «first_provisional_lock_elapsed_ms» = milestone.At (record { 0 = fin false 1 (pos 0) });
+  «confirmed_lock_elapsed_ms» = milestone.At (record { 0 = fin false 5 (pos 0) });
+  «final_lock_elapsed_ms» = milestone.At (record { 0 = fin false 5 (pos 0) });
 }
 
 abbrev pub turn5 : Turn
@@ -239,7 +247,9 @@ snapshot6 = record {
       «coast_ms» = fin false 95 (pos 1);
     };
   };
-  milestones = record { «first_provisional_ms» = milestone.At (record { 0 = fin false 1 (pos 0) }); «confirmed_ms» = milestone.At (record { 0 = fin false 5 (pos 0) }); «final_ms» = milestone.At (record { 0 = fin false 5 (pos 0) }) };
+  «first_provisional_lock_elapsed_ms» = milestone.At (record { 0 = fin false 1 (pos 0) });
+  «confirmed_lock_elapsed_ms» = milestone.At (record { 0 = fin false 5 (pos 0) });
+  «final_lock_elapsed_ms» = milestone.At (record { 0 = fin false 5 (pos 0) });
 }
 
 abbrev pub turn6 : Turn
@@ -280,7 +290,9 @@ snapshot7 = record {
       «coast_ms» = fin false 0 (pos 0);
     };
   };
-  milestones = record { «first_provisional_ms» = milestone.At (record { 0 = fin false 1 (pos 0) }); «confirmed_ms» = milestone.At (record { 0 = fin false 5 (pos 0) }); «final_ms» = milestone.At (record { 0 = fin false 5 (pos 0) }) };
+  «first_provisional_lock_elapsed_ms» = milestone.At (record { 0 = fin false 1 (pos 0) });
+  «confirmed_lock_elapsed_ms» = milestone.At (record { 0 = fin false 5 (pos 0) });
+  «final_lock_elapsed_ms» = milestone.At (record { 0 = fin false 5 (pos 0) });
 }
 
 abbrev pub turn7 : Turn
@@ -321,7 +333,9 @@ snapshot8 = record {
       «coast_ms» = fin false 625 (pos 1);
     };
   };
-  milestones = record { «first_provisional_ms» = milestone.At (record { 0 = fin false 1 (pos 0) }); «confirmed_ms» = milestone.At (record { 0 = fin false 5 (pos 0) }); «final_ms» = milestone.At (record { 0 = fin false 5 (pos 0) }) };
+  «first_provisional_lock_elapsed_ms» = milestone.At (record { 0 = fin false 1 (pos 0) });
+  «confirmed_lock_elapsed_ms» = milestone.At (record { 0 = fin false 5 (pos 0) });
+  «final_lock_elapsed_ms» = milestone.At (record { 0 = fin false 5 (pos 0) });
 }
 
 abbrev pub turn8 : Turn

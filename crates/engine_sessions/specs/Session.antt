@@ -7,13 +7,12 @@ use lib.ListN.{length, replicate}
 use lib.Ieee.{Float}
 use Rattle.numbers_spec.specs.Arithmetic.{zero⁺}
 use Rattle.matcher_spec.specs.Index.{Index}
-use Rattle.engine_spec.specs.Windows.{Window, endpointOf}
+use Rattle.engine_spec.specs.Windows.{Window, Submission, endpointOf}
 use Rattle.matcher_spec.specs.Features.{Features}
-use Rattle.engine_spec.specs.Refusals.{Submission}
 use Rattle.engine_spec.specs.Opening.{blankCandidate, blankSnapshot, opening}
 use Rattle.engine_spec.specs.Submitting.{submit, refused}
-use Rattle.engine_spec.specs.Guarantee.{answersTo}
-use Rattle.engine_spec.specs.Chain.{Answered}
+use Rattle.engine_spec.specs.Milestones.{milestonesShown}
+use Rattle.engine_spec.specs.Lists.{Answered, answersTo}
 use Rattle.engine_spec.specs.declared.types.Configuration.{Configuration}
 use Rattle.engine_spec.specs.declared.types.Lock.{Lock}
 use Rattle.engine_spec.specs.declared.types.CandidateDiagnostics.{CandidateDiagnostics}
@@ -21,7 +20,7 @@ use Rattle.engine_spec.specs.declared.types.Snapshot.{Snapshot}
 use Rattle.engine_spec.specs.declared.types.Engine.{Engine}
 use Rattle.engine_spec.specs.declared.types.SubmitResult.{SubmitResult}
 use Rattle.engine_spec.specs.declared.types.Endpoint.the-variants as endpoint
-use Rattle.engine_spec.specs.declared.types.Answer.{Answer}
+use Rattle.engine_spec.specs.declared.types.Refusal.{Refusal}
 use Rattle.engine_spec.specs.declared.types.Answer.the-variants as answer
 use Rattle.matcher_spec.specs.Limits.{candidatesMost}
 
@@ -46,8 +45,8 @@ heard N x w clock = record {
   index = x;
   window = w;
   clock = record { 0 = clock };
-  room32 = 2 * w .bands * length (w .times);
-  room64 = 3 * w .bands * (length (w .times) + 1) + N;
+  room32 = 2 * (w .bands * length (w .times));
+  room64 = 3 * (w .bands * (length (w .times) + 1)) + N;
 }
 
 -- A submission without working buffers.
@@ -61,7 +60,7 @@ eight l = l ++ replicate (candidatesMost - length l) blankCandidate
 
 -- A refusal, a re-reading, or a computed answer with the lock that the Rust then holds.
 pub data Reply : Type 0 where
-  refusal : Answer → Reply
+  refusal : Refusal → Reply
   again : Snapshot → Reply
   answered : Snapshot → Lock → Reply
 
@@ -71,7 +70,13 @@ outcome e i (refusal r) = refused e r
 outcome e i (again n) = record { answer = answer.Reread; engine = e; snapshot = n }
 outcome e i (answered n l) = record {
   answer = answer.Computed;
-  engine = record { settings = e .settings; lock = l; milestones = n .milestones; last = record { «endpoint_ms» = endpoint.At (endpointOf (i .window)); «has_snapshot» = true; snapshot = n } };
+  engine = record {
+    configuration = e .configuration;
+    settings = e .settings;
+    lock = l;
+    milestones = milestonesShown n;
+    last = record { «endpoint_ms» = endpoint.At (endpointOf (i .window)); «has_snapshot» = true; snapshot = n };
+  };
   snapshot = n;
 }
 
@@ -123,7 +128,7 @@ unfoldable pub replied : Turn → Answered
 replied t = of (t .reply)
   where
     of : Reply → Answered
-    of (refusal r) = record { submission = t .submission; answer = r; snapshot = blankSnapshot }
+    of (refusal r) = record { submission = t .submission; answer = answer.Refused r; snapshot = blankSnapshot }
     of (again n) = record { submission = t .submission; answer = answer.Reread; snapshot = n }
     of (answered n l) = record { submission = t .submission; answer = answer.Computed; snapshot = n }
 

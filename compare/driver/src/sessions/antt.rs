@@ -87,7 +87,7 @@ use Rattle.engine_spec.specs.declared.types.Estimate.the-variants as estimate
 use Rattle.engine_spec.specs.declared.types.Maybe.the-variants as maybe
 use Rattle.engine_spec.specs.declared.types.Milestone.the-variants as milestone
 use Rattle.engine_spec.specs.declared.types.Hypothesis.the-variants as hypothesis
-use Rattle.engine_spec.specs.declared.types.Answer.the-variants as answer
+use Rattle.engine_spec.specs.declared.types.Refusal.the-variants as refusal
 use Rattle.engine_sessions.specs.Session.{Session, Turn, roomFor, heard, heardWithoutWork, eight, refusal, answered}
 ";
 
@@ -139,7 +139,7 @@ fn handed(submission: &Submission, n: usize, frames: usize) -> String {
 // ---- what came of it
 fn reply(outcome: &Outcome, n: usize) -> String {
     match outcome {
-        Outcome::Refused(number) => format!("refusal answer.{}", refusal_name(*number)),
+        Outcome::Refused(number) => format!("refusal refusal.{}", refusal_name(*number)),
         Outcome::Answered(answer) => answered(answer, n),
     }
 }
@@ -196,7 +196,12 @@ fn snapshot(s: &Snapshot) -> String {
         format!("«withhold_reason» = reason.{reason}"),
         number("confidence", s.confidence),
         format!("diagnostics = {}", diagnostics(s)),
-        format!("milestones = {}", milestones(s)),
+        milestone(
+            "first_provisional_lock_elapsed_ms",
+            s.first_provisional_lock_elapsed_ms,
+        ),
+        milestone("confirmed_lock_elapsed_ms", s.confirmed_lock_elapsed_ms),
+        milestone("final_lock_elapsed_ms", s.final_lock_elapsed_ms),
     ];
     rows(0, &fields)
 }
@@ -258,21 +263,6 @@ fn spectral(s: &Snapshot) -> String {
     rows(2, &fields)
 }
 
-fn milestones(s: &Snapshot) -> String {
-    let milestone = |name: &str, at: Option<f64>| {
-        let word = at.map_or("milestone.Absent".into(), |at| {
-            format!("milestone.At (record {{ 0 = {} }})", wide(at))
-        });
-        format!("«{name}» = {word}")
-    };
-    let fields = [
-        milestone("first_provisional_ms", s.first_provisional_lock_elapsed_ms),
-        milestone("confirmed_ms", s.confirmed_lock_elapsed_ms),
-        milestone("final_ms", s.final_lock_elapsed_ms),
-    ];
-    record(&fields.join("; "))
-}
-
 // ---- fields, records and lists
 /// A name with an underline is quoted.
 fn named(name: &str, word: String) -> String {
@@ -288,6 +278,13 @@ fn number(name: &str, x: f64) -> String {
 
 fn maybe(name: &str, x: Option<f64>) -> String {
     let word = x.map_or("maybe.Absent".into(), |x| format!("maybe.Is ({})", wide(x)));
+    named(name, word)
+}
+
+fn milestone(name: &str, at: Option<f64>) -> String {
+    let word = at.map_or("milestone.Absent".into(), |at| {
+        format!("milestone.At (record {{ 0 = {} }})", wide(at))
+    });
     named(name, word)
 }
 
