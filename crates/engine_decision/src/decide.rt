@@ -7,22 +7,26 @@ ghost use Rattle.engine_spec.specs.Publishing.{decide};
 ghost use Rattle.matcher_spec.specs.Index.{lent};
 ghost use Rattle.engine_spec.specs.Lent.{window};
 ghost use Rattle.engine_spec.specs.Room.{Room};
-ghost use Rattle.engine_lock.specs.Views.{reachedIn};
 ghost use Rattle.engine_decision.specs.Decided.{decisionIn};
 ghost use Rattle.matcher_spec.specs.Limits.{candidatesMost};
 use crate::kinds::Decision;
 use crate::verdict::ready;
 use crate::verdict::unready;
-use engine_lock::kinds::Reached;
+use engine_lock::track::evidence;
 use engine_readiness::is_none;
 use engine_readiness::readiness;
 use engine_search::search::searched;
+use engine_spec::types::Configuration;
 use engine_spec::types::Lock;
+use engine_spec::types::Reached;
 use engine_spec::types::RecordedMs;
 use engine_spec::types::Settings;
 
-// Readiness first; a window that is ready is searched.
+// Readiness first; a window that is ready is searched. A whole search that is due is made where it is
+// granted.
 pub fn decide(
+    granted: bool,
+    configuration: Configuration,
     settings: Settings,
     fine: &[f32],
     coarse: &[f32],
@@ -38,16 +42,24 @@ pub fn decide(
     work64: &mut [f64],
 ) -> Decision
     requires { ⌜ Room settings (lent (now fine) (now coarse) (now «fine_energy») (now «coarse_energy»)) (window bands (now times) (now energies) (now values)) (length (now work32)) (length (now work64)) ⌝ }
-    ensures { λ r. ⌜ decisionIn r ≡ decide settings (matcherIn settings (lent (now (fine .entry)) (now (coarse .entry)) (now («fine_energy» .entry)) (now («coarse_energy» .entry)))) (window bands (now (times .entry)) (now (energies .entry)) (now (values .entry))) (reachedIn reached) lock ⌝ }
+    ensures { λ r. ⌜ decisionIn r ≡ decide granted configuration settings (matcherIn settings (lent (now (fine .entry)) (now (coarse .entry)) (now («fine_energy» .entry)) (now («coarse_energy» .entry)))) (window bands (now (times .entry)) (now (energies .entry)) (now (values .entry))) reached lock ⌝ }
     ensures { λ r. ⌜ r .found .count ≤ candidatesMost ⌝ }
 {
-    let n = times.len();
-    let endpoint = RecordedMs(times[n - 1]);
-    let reason = readiness(settings, reached.confirmed, bands, times, energies, values);
+    let endpoint = RecordedMs(times[times.len() - 1]);
+    let reason = readiness(
+        configuration,
+        settings,
+        reached.confirmed,
+        bands,
+        times,
+        energies,
+        values,
+    );
     if !is_none(reason) {
         return unready(settings, reached, lock, reason);
     }
     let s = searched(
+        granted,
         settings,
         fine,
         coarse,
@@ -62,5 +74,5 @@ pub fn decide(
         work32,
         work64,
     );
-    ready(settings.hop_ms, endpoint, s)
+    ready(evidence(settings.hop_ms, endpoint), s)
 }

@@ -8,35 +8,33 @@ ghost use Rattle.engine_spec.specs.Publishing.{ambiguous, offTrack, offsetOf, o
 ghost use Rattle.engine_spec.specs.declared.types.Maybe.the-variants as maybe;
 ghost use Rattle.engine_spec.specs.declared.types.State.the-variants as state;
 ghost use Rattle.engine_spec.specs.declared.types.WithholdReason.the-variants as reason;
-ghost use Rattle.engine_lock.specs.Views.{endingAt, reachedIn, searchedIn};
-ghost use Rattle.engine_decision.specs.Decided.{decisionIn, verdictIn};
+ghost use Rattle.engine_lock.specs.Views.{searchedIn};
+ghost use Rattle.engine_decision.specs.Decided.{decisionIn};
 ghost use Rattle.matcher_spec.specs.Limits.{candidatesMost};
 use crate::kinds::Decision;
-use crate::kinds::Verdict;
-use engine_lock::kinds::Reached;
 use engine_lock::kinds::Searched;
-use engine_lock::track::evidence;
 use engine_lock::track::may_coast;
 use engine_spec::thresholds::PASSING_MARGIN;
 use engine_spec::types::Hypothesis;
 use engine_spec::types::Lock;
 use engine_spec::types::Maybe;
+use engine_spec::types::Reached;
 use engine_spec::types::RecordedMs;
 use engine_spec::types::Settings;
 use engine_spec::types::State;
+use engine_spec::types::Verdict;
 use engine_spec::types::WithholdReason;
 use matcher_picks::candidates::margin;
 use matcher_picks::candidates::nothing_found;
 use matcher_spec::types::MatchResult;
 use numbers::float::at_least;
 
-// What a window decides that was searched.
-pub fn ready(hop: f64, endpoint: RecordedMs, s: Searched) -> Decision
+// What a window decides that was searched, with this evidence time.
+pub fn ready(now: RecordedMs, s: Searched) -> Decision
     requires { ⌜ s .found .count ≤ candidatesMost ⌝ }
-    ensures { λ r. ⌜ decisionIn r ≡ ready hop (endingAt endpoint) (searchedIn s) ⌝ }
+    ensures { λ r. ⌜ decisionIn r ≡ ready now (searchedIn s) ⌝ }
     ensures { λ r. ⌜ r .found ≡ s .found ⌝ }
 {
-    let now = evidence(hop, endpoint);
     let lock = s.lock;
     let reached = s.reached;
     let found = s.found;
@@ -54,7 +52,7 @@ pub fn ready(hop: f64, endpoint: RecordedMs, s: Searched) -> Decision
 // What a window decides that cannot be searched: the observed loss of sound is no support for the
 // old place.
 pub fn unready(settings: Settings, reached: Reached, lock: Lock, reason: WithholdReason) -> Decision
-    ensures { λ r. ⌜ decisionIn r ≡ unready settings (reachedIn reached) lock reason ⌝ }
+    ensures { λ r. ⌜ decisionIn r ≡ unready settings reached lock reason ⌝ }
     ensures { λ r. ⌜ r .found .count ≤ candidatesMost ⌝ }
 {
     let last_global_search_ms = lock.last_global_search_ms;
@@ -84,7 +82,7 @@ pub fn unready(settings: Settings, reached: Reached, lock: Lock, reason: Withhol
 // A track is shown as long as it may coast.
 pub fn verdict_of(accepted: Hypothesis, now: RecordedMs, s: Searched) -> Verdict
     requires { ⌜ s .found .count ≤ candidatesMost ⌝ }
-    ensures { λ r. ⌜ verdictIn r ≡ verdictOf accepted now (searchedIn s) ⌝ }
+    ensures { λ r. ⌜ r ≡ verdictOf accepted now (searchedIn s) ⌝ }
 {
     match accepted {
         Hypothesis::Absent => off_track(s),
@@ -105,7 +103,7 @@ pub fn verdict_of(accepted: Hypothesis, now: RecordedMs, s: Searched) -> Verdict
 // On a track at this offset, whose evidence ended so long ago. From a fresh engine it is never
 // Confirmed.
 fn on_track(s: Searched, offset: f64, since: f64) -> Verdict
-    ensures { λ r. ⌜ verdictIn r ≡ onTrack (searchedIn s) offset since ⌝ }
+    ensures { λ r. ⌜ r ≡ onTrack (searchedIn s) offset since ⌝ }
 {
     let reached = s.reached;
     let innovation = s.innovation;
@@ -124,7 +122,7 @@ fn on_track(s: Searched, offset: f64, since: f64) -> Verdict
 // On no track: Locking with the pending place, or Relocking with none.
 fn off_track(s: Searched) -> Verdict
     requires { ⌜ s .found .count ≤ candidatesMost ⌝ }
-    ensures { λ r. ⌜ verdictIn r ≡ offTrack (searchedIn s) ⌝ }
+    ensures { λ r. ⌜ r ≡ offTrack (searchedIn s) ⌝ }
 {
     let reached = s.reached;
     let lock = s.lock;

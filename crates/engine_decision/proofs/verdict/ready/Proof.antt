@@ -5,7 +5,7 @@ use Rattle.engine_decision.proofs.verdict.ready.Statement.{statement}
 use Rattle.engine_decision.proofs.verdict.ready.Tie as tie
 
 returns : tie.Need-returns
-returns c = (simp (← (c .before .before .before .before .evidence .ensures), ← (c .verdict-of .ensures)), refl)
+returns c = (simp (← (c .verdict-of .ensures)), refl)
 
 pub ready-spec : {M : Type 1} → statement M
-ready-spec = tie.close (tie.spec (λ c κs. search needs) (λ c κs. search needs) returns)
+ready-spec = tie.close (tie.spec (λ c κs. search needs) returns)
