@@ -21,6 +21,7 @@ pub mod Struck
 pub mod Run
 pub mod AnyState
 pub mod Latest
+pub mod Finite
 pub mod Contract
 pub mod Figures
 pub mod Constants

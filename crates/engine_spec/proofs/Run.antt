@@ -39,6 +39,7 @@ grounds c hop reference x o =
       valid = settings-valid o;
       clocked = clock-finite s;
       fair = fair o;
+      sound = sound o;
       decision = decision-is o;
       offsets = λ e i good h q. offsets-finite s (matcherOfReference hop reference) e i (good .safe) (good .settings) (sound o i h q) (near-endpoint s i q);
       safe = λ e i good h q. safe-next s (matcherOfReference hop reference) e i (good .safe) (good .settings) (sound o i h q) (near-endpoint s i q) (clock-finite s i q);

@@ -14,7 +14,7 @@ use Rattle.engine_spec.specs.Guarantee.{Handed, AllHanded, nothing, next
 use Rattle.engine_spec.specs.Milestones.{reachedBy}
 use Rattle.engine_spec.specs.Lists.{Answered, answersTo, engineAfter, remaining}
 use Rattle.engine_spec.specs.Cases.{isComputed}
-use Rattle.engine_spec.proofs.Effects.{Fair, Offsets, trim}
+use Rattle.engine_spec.proofs.Effects.{Fair, Sound, Offsets, trim}
 use Rattle.engine_spec.proofs.Validity.{Safe, safe-valid, safe-fresh}
 use Rattle.engine_spec.specs.declared.types.Configuration.{Configuration}
 use Rattle.engine_spec.specs.declared.types.Settings.{Settings}
@@ -52,6 +52,7 @@ pub record Grounds (s : Settings) (m : Matcher) : Type 0 where
   pub valid : validSettings s ≡ true
   pub clocked : (i : Submission) → refuses (handedRefusal s i) ≡ false → T (finite (i .clock .0))
   pub fair : (i : Submission) → Handed s m i → refuses (handedRefusal s i) ≡ false → Fair s m (i .window)
+  pub sound : (i : Submission) → Handed s m i → refuses (handedRefusal s i) ≡ false → Sound s m (i .window)
   pub decision : (e : Engine) (i : Submission) → e .settings ≡ s → Handed s m i → refuses (handedRefusal s i) ≡ false → decisionOn e i ≡ decisionBy s m e i
   pub offsets : (e : Engine) (i : Submission) → Good s e → Handed s m i → refuses (handedRefusal s i) ≡ false → T (indexed s) → Offsets m (query (i .window)) (evidence (s .«hop_ms») (i .window)) (lockFrom e (i .window) .accepted)
   pub safe : (e : Engine) (i : Submission) → Good s e → Handed s m i → refuses (handedRefusal s i) ≡ false → Safe (computedBy s m e i .engine)

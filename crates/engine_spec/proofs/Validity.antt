@@ -1,24 +1,24 @@
--- What keeps the states that a fresh engine reaches from being refused with 7: every number in range, and every place's offset within 2^42. Assumes nothing.
+-- What keeps the states that a fresh engine reaches from being refused with 7: every number in range, and every place's offset within 2^42; and with them all that a decision on a window finds and says. Assumes nothing.
 use mathlib.Core.Path.{_≡_, sym, subst}
 use mathlib.Core.Bool.{Bool, true, false, not, _&&_}
 use mathlib.Core.List.{List, [], _∷_}
-use Prim.Native.Nat.{_≤_}
 use native.Mathlib.Omega.{arith}
+use native.Mathlib.Nat.{not-suc-le-zero}
 use lib.Dec.{T, lit≤, leb, le→leb}
 use lib.Count.{trailingZeros}
 use lib.ListN.{length}
 use lib.Ieee.{Float, inf, binary64, le, lt, eq, neg, add, sum, ofBits, ofFields, odd, round, units, size, span, climb}
 use lib.Ieee.Scale.{finite}
-use Rattle.numbers_spec.specs.Arithmetic.{_⊕_, zero⁺, atLeast}
+use Rattle.numbers_spec.specs.Arithmetic.{_⊕_, _⊖_, zero⁺, atLeast, magnitude}
 use Rattle.numbers_spec.specs.Values.{AtMost}
-use Rattle.numbers_spec.proofs.Order.{at-most-finite}
+use Rattle.numbers_spec.proofs.Order.{le-transitive, lt→le, between-at-most, at-most-finite}
 use Rattle.numbers_spec.proofs.Sums.{add-at-most, sub-at-most}
 use Rattle.matcher_spec.specs.declared.types.Candidate.{Candidate}
 use Rattle.matcher_spec.specs.Index.{Matcher}
 use Rattle.matcher_spec.specs.Search.{wholeSearch, localSearch}
 use Rattle.matcher_spec.specs.SoundSearch.{SoundResult}
 use Rattle.numbers_spec.proofs.Within.{within-at-most}
-use Rattle.engine_spec.specs.Thresholds.{supportCorrelation, supportRecent}
+use Rattle.engine_spec.specs.Thresholds.{coastMostMs, supportCorrelation, supportRecent}
 use Rattle.engine_spec.specs.Windows.{Window, indexed, query, endpointOf, evidence, jumps, _after_, Submission, samePlace, current}
 use Rattle.engine_spec.specs.Refusals.{within, near, hopInRange, validConfiguration, validSettings, trackNumber, validHypothesis, validSearchTime, validLock, validMilestone, validMilestones, validEndpoint, validEstimate, validSnapshot, validLast, validEngine}
 use Rattle.engine_spec.specs.Opening.{noLock, freshEngine}
@@ -29,6 +29,7 @@ use Rattle.engine_spec.specs.Publishing.{Decision, offTrack, onTrack, ve
 use Rattle.engine_spec.specs.Submitting.{lockFrom, computedFrom}
 use Rattle.engine_spec.specs.Milestones.{noMilestones, reachedBy, stampedOnce, stampedWithFinal, stamp}
 use Rattle.engine_spec.specs.Cases.{isNone}
+use Rattle.engine_spec.specs.Finite.{FiniteMaybe}
 use Rattle.engine_spec.specs.declared.types.Reached.{Reached}
 use Rattle.engine_spec.specs.declared.types.Verdict.{Verdict}
 use Rattle.engine_spec.specs.declared.types.RecordedMs.{RecordedMs}
@@ -132,11 +133,23 @@ best-place c b = at-most-wider foundMost placeMost (c .«offset_ms») (unfold le
 -- ---- the searches of one window, whose evidence time is in range
 record TrackedWell (t : Tracked) : Type 0 where
   accepted : Bounded (t .accepted)
-  few : length (t .found) ≤ candidatesMost
+  found : SoundResult (t .found)
+  innovation : FiniteMaybe (t .innovation)
 
 record SearchedWell (x : Searched) : Type 0 where
   lock : LockBounds (x .lock)
-  few : length (x .found) ≤ candidatesMost
+  found : SoundResult (x .found)
+  innovation : FiniteMaybe (x .innovation)
+
+-- Where nothing is searched, nothing is found.
+nothing-found : SoundResult []
+nothing-found = record {
+  few = lit≤ tt;
+  far = λ i j l h. absurd (not-suc-le-zero h);
+  in-order = λ i j l h. absurd (not-suc-le-zero h);
+  sound = λ i h. absurd (not-suc-le-zero h);
+  modest = λ i h. absurd (not-suc-le-zero h);
+}
 
 since-bound : T (finite (trackMost ⊕ trackMost))
 unfolding add sum round units size span climb ofBits ofFields odd trailingZeros
@@ -149,8 +162,16 @@ track-finite : (h : Hypothesis) → Bounded h → FiniteTrack h
 track-finite hypothesis.Absent h = tt
 track-finite (hypothesis.Held o f l c) (held O F L C) = place-finite o O
 
--- so is the time between two such
-after-finite : (now last : RecordedMs) → AtMost trackMost (now .0) → AtMost trackMost (last .0) → T (finite (now after last))
+-- So is how far what was found lies from the track,
+innovation-bound : T (finite (foundMost ⊕ placeMost))
+unfolding add sum round units size span climb odd trailingZeros
+innovation-bound = tt
+
+innovation-finite : (best offset : Float) → AtMost foundMost best → AtMost placeMost offset → T (finite (best ⊖ offset))
+innovation-finite best offset B O = at-most-finite (foundMost ⊕ placeMost) (best ⊖ offset) innovation-bound (sub-at-most binary64 best offset foundMost placeMost tt tt B O)
+
+-- and the time between two evidence times.
+pub after-finite : (now last : RecordedMs) → AtMost trackMost (now .0) → AtMost trackMost (last .0) → T (finite (now after last))
 after-finite now last N L = at-most-finite (trackMost ⊕ trackMost) (now after last) since-bound (sub-at-most binary64 (now .0) (last .0) trackMost trackMost track-most-finite track-most-finite N L)
 
 supports-place : (offset : Float) (best : Candidate) → T (supports offset best) → T (samePlace (best .«offset_ms») offset)
@@ -164,16 +185,17 @@ module _ (now : RecordedMs) (N : AtMost trackMost (now .0)) where
   -- A local search moves the track, or leaves it.
   followed-well : (o : Float) (f l : RecordedMs) (c : Float) → Bounded (hypothesis.Held o f l c) → (found : List Candidate) → SoundResult found → TrackedWell (followed o f l c now found)
   unfolding followed
-  followed-well o f l c h [] r = record { accepted = h; few = r .few }
+  followed-well o f l c h [] r = record { accepted = h; found = r; innovation = tt }
   followed-well o f l c (held O F L C) (best ∷ rest) r =
       cond-elim TrackedWell (supports o best) _ _
       (λ t. record {
         accepted = held
             (moved-at-most best o (atLeast zero⁺ (now after l)) (best-of best rest r .offset) (place-finite o O) (supports-place o best t) (since-finite (now after l) (after-finite now l N L)) (since-not-negative (now after l)))
             F N (best-of best rest r .score);
-        few = r .few;
+        found = r;
+        innovation = innovation-finite (best .«offset_ms») o (best-of best rest r .offset) O;
       })
-      (λ t. record { accepted = held O F L C; few = r .few })
+      (λ t. record { accepted = held O F L C; found = r; innovation = tt })
 
   -- Pending's first evidence, carried on or begun.
   first-bound : (p : Hypothesis) (offset : Float) → Bounded p → AtMost trackMost (firstEvidence p offset now .0)
@@ -199,11 +221,11 @@ module _ (m : Matcher) (hop : Float) (w : Window) (N : AtMost trackMost (evidenc
 
   tracked-well : (h : Hypothesis) → Bounded h → ((lower upper : Float) → SoundResult (localSearch (m .reference) (m .fine) (query w) lower upper)) → TrackedWell (tracked m (query w) (evidence hop w) h)
   unfolding tracked
-  tracked-well hypothesis.Absent h r = record { accepted = none; few = lit≤ tt }
+  tracked-well hypothesis.Absent h r = record { accepted = none; found = nothing-found; innovation = tt }
   tracked-well (hypothesis.Held o f l c) h r =
       cond-elim TrackedWell (mayCoast (evidence hop w) l) _ _
       (λ t. followed-well (evidence hop w) N o f l c h _ (r _ _))
-      (λ t. record { accepted = none; few = lit≤ tt })
+      (λ t. record { accepted = none; found = nothing-found; innovation = tt })
 
   passed-well : (k : Reached) (first : RecordedMs) (t : Tracked) (best : Candidate) (rest : List Candidate) → AtMost trackMost (first .0) → TrackedWell t → SoundResult (best ∷ rest) → SearchedWell (passed hop (evidence hop w) (endpointOf w) k first t best rest)
   unfolding passed
@@ -211,11 +233,11 @@ module _ (m : Matcher) (hop : Float) (w : Window) (N : AtMost trackMost (evidenc
       let b = best-of best rest r in
       let pending = held (best-place best b) F N (b .score) in
       cond-elim SearchedWell (confirms hop first (evidence hop w) best) _ _
-      (λ u. record { lock = record { pending = pending; accepted = kept-or-replaced (evidence hop w) N (t .accepted) (t .supported) best (τ .accepted) b; time = end-time }; few = r .few })
-      (λ u. record { lock = record { pending = pending; accepted = τ .accepted; time = end-time }; few = r .few })
+      (λ u. record { lock = record { pending = pending; accepted = kept-or-replaced (evidence hop w) N (t .accepted) (t .supported) best (τ .accepted) b; time = end-time }; found = r; innovation = τ .innovation })
+      (λ u. record { lock = record { pending = pending; accepted = τ .accepted; time = end-time }; found = r; innovation = τ .innovation })
 
   not-passed-well : (k : Reached) (p : Hypothesis) (t : Tracked) (found : List Candidate) → Bounded p → TrackedWell t → SoundResult found → SearchedWell (notPassed (evidence hop w) (endpointOf w) k p t found)
-  not-passed-well k p t found h τ r = record { lock = record { pending = held-or-dropped (evidence hop w) N p found h; accepted = τ .accepted; time = end-time }; few = r .few }
+  not-passed-well k p t found h τ r = record { lock = record { pending = held-or-dropped (evidence hop w) N p found h; accepted = τ .accepted; time = end-time }; found = r; innovation = τ .innovation }
 
   whole-well : (k : Reached) (p : Hypothesis) (t : Tracked) (found : List Candidate) → Bounded p → TrackedWell t → SoundResult found → SearchedWell (wholeSearched hop (evidence hop w) (endpointOf w) k p t found)
   unfolding wholeSearched
@@ -232,11 +254,11 @@ module _ (m : Matcher) (hop : Float) (w : Window) (N : AtMost trackMost (evidenc
       let t = tracked-well (l .accepted) (b .accepted) local in
       cond-elim SearchedWell (granted && isDue (tracked m (query w) (evidence hop w) (l .accepted) .supported) (endpointOf w) (l .«last_global_search_ms»)) _ _
       (λ u. whole-well k (l .pending) _ (wholeSearch m (query w)) (b .pending) t whole)
-      (λ u. record { lock = record { pending = b .pending; accepted = t .accepted; time = b .time }; few = t .few })
+      (λ u. record { lock = record { pending = b .pending; accepted = t .accepted; time = b .time }; found = t .found; innovation = t .innovation })
 
 -- ---- the decision
 -- The offset shown.
-data Offset : Maybe → Type 0 where
+pub data Offset : Maybe → Type 0 where
   none : Offset maybe.Absent
   shown : {o : Float} → AtMost placeMost o → Offset (maybe.Is o)
 
@@ -244,19 +266,43 @@ offset-of : (h : Hypothesis) → Bounded h → Offset (offsetOf h)
 offset-of hypothesis.Absent h = none
 offset-of (hypothesis.Held o f l c) (held O F L C) = shown O
 
-off-track : (x : Searched) → LockBounds (x .lock) → Offset (offTrack x .offset)
-off-track x b = cond-elim Offset (x .reached .confirmed) maybe.Absent (offsetOf (x .lock .pending)) (λ t. none) (λ t. offset-of (x .lock .pending) (b .pending))
+-- The numbers of a verdict; the coast is at most what a track may coast.
+pub record VerdictWell (v : Verdict) : Type 0 where
+  pub offset : Offset (v .offset)
+  pub innovation : FiniteMaybe (v .innovation)
+  pub coast : AtMost coastMostMs (v .coast)
 
-verdict-offset : (h : Hypothesis) (now : RecordedMs) (x : Searched) → Bounded h → LockBounds (x .lock) → Offset (verdictOf h now x .offset)
+no-coast : AtMost coastMostMs zero⁺
+unfolding magnitude le lt eq ofBits ofFields odd trailingZeros
+no-coast = tt
+
+coast-least : T (le (neg coastMostMs) zero⁺)
+unfolding neg le lt eq ofBits ofFields odd trailingZeros
+coast-least = tt
+
+coast-most : (since : Float) → T (le since coastMostMs) → AtMost coastMostMs (atLeast zero⁺ since)
+coast-most since h =
+    cond-elim (λ (x : Float). AtMost coastMostMs x) (lt zero⁺ since) since zero⁺
+    (λ l. between-at-most coastMostMs since (record { from = le-transitive (neg coastMostMs) zero⁺ since coast-least (lt→le zero⁺ since l); to = h })) (λ l. no-coast)
+
+off-track : (x : Searched) → SearchedWell x → VerdictWell (offTrack x)
+off-track x y = record {
+  offset = cond-elim Offset (x .reached .confirmed) maybe.Absent (offsetOf (x .lock .pending)) (λ t. none) (λ t. offset-of (x .lock .pending) (y .lock .pending));
+  innovation = tt;
+  coast = no-coast;
+}
+
+verdict-well : (h : Hypothesis) (now : RecordedMs) (x : Searched) → Bounded h → SearchedWell x → VerdictWell (verdictOf h now x)
 unfolding verdictOf
-verdict-offset hypothesis.Absent now x h b = off-track x b
-verdict-offset (hypothesis.Held o f l c) now x (held O F L C) b =
-    cond-elim (λ (v : Verdict). Offset (v .offset)) (mayCoast now l) (onTrack x o (now after l)) (offTrack x) (λ t. shown O) (λ t. off-track x b)
+verdict-well hypothesis.Absent now x h y = off-track x y
+verdict-well (hypothesis.Held o f l c) now x (held O F L C) y =
+    cond-elim VerdictWell (mayCoast now l) (onTrack x o (now after l)) (offTrack x)
+    (λ t. record { offset = shown O; innovation = y .innovation; coast = coast-most (now after l) t }) (λ t. off-track x y)
 
-record DecisionWell (d : Decision) : Type 0 where
-  lock : LockBounds (d .lock)
-  few : length (d .found) ≤ candidatesMost
-  offset : Offset (d .verdict .offset)
+pub record DecisionWell (d : Decision) : Type 0 where
+  pub lock : LockBounds (d .lock)
+  pub found : SoundResult (d .found)
+  pub verdict : VerdictWell (d .verdict)
 
 -- Without index no window is ready.
 ready-indexed : (c : Configuration) (s : Settings) (confirmed : Bool) (w : Window) → T (isNone (readiness c s confirmed w)) → T (indexed s)
@@ -270,8 +316,8 @@ decide-well granted c s m w k l N n b sound =
     (λ t.
     let x = ready-indexed c s (k .confirmed) w t in
     let y = searched-well m (s .«hop_ms») w N n granted k l b (sound .whole x) (sound .near x) in
-    record { lock = y .lock; few = y .few; offset = verdict-offset _ (evidence (s .«hop_ms») w) _ (y .lock .accepted) (y .lock) })
-    (λ t. record { lock = record { pending = none; accepted = none; time = b .time }; few = lit≤ tt; offset = none })
+    record { lock = y .lock; found = y .found; verdict = verdict-well _ (evidence (s .«hop_ms») w) _ (y .lock .accepted) y })
+    (λ t. record { lock = record { pending = none; accepted = none; time = b .time }; found = nothing-found; verdict = record { offset = none; innovation = tt; coast = no-coast } })
 
 -- ---- what the state holds after it
 far-track : T (le farthestMs trackMost)
@@ -326,8 +372,8 @@ computed-safe e w clock d k n c y = record {
   last =
       unfold validLast validSnapshot validEndpoint in
       and-i (near (endpointOf w .0)) _ n
-      (and-i (leb (length (d .found)) candidatesMost) _ (le→leb (length (d .found)) candidatesMost (y .few))
-      (and-i (validEstimate (estimateAt (endpointOf w) (d .verdict .offset))) _ (estimate-valid (endpointOf w) (bounded farthestMs _ (T-is _ n)) (d .verdict .offset) (y .offset))
+      (and-i (leb (length (d .found)) candidatesMost) _ (le→leb (length (d .found)) candidatesMost (y .found .few))
+      (and-i (validEstimate (estimateAt (endpointOf w) (d .verdict .offset))) _ (estimate-valid (endpointOf w) (bounded farthestMs _ (T-is _ n)) (d .verdict .offset) (y .verdict .offset))
       (stamp-valid (e .milestones) (d .reached) clock (k .milestones) c)));
 }
 
@@ -350,8 +396,11 @@ module _ (s : Settings) (m : Matcher) (e : Engine) (i : Submission) (k : Safe e)
   near-end : T (near (endpointOf w .0))
   near-end = subst T (sym n) tt
 
+  pub decision-well : DecisionWell (decide true (e .configuration) s m (i .window) (reachedBy (e .milestones)) (lockFrom e (i .window)))
+  decision-well = decide-well true (e .configuration) s m w (reachedBy (e .milestones)) (lockFrom e w) evidence-most near-end (lock-from e w k) sound
+
   pub safe-next : T (finite (i .clock .0)) → let d = decide true (e .configuration) s m (i .window) (reachedBy (e .milestones)) (lockFrom e (i .window)) in Safe (computedFrom e (i .window) (i .clock) d .engine)
-  safe-next c = computed-safe e w (i .clock) _ k near-end c (decide-well true (e .configuration) s m w (reachedBy (e .milestones)) (lockFrom e w) evidence-most near-end (lock-from e w k) sound)
+  safe-next c = computed-safe e w (i .clock) _ k near-end c decision-well
 
   -- The offsets that the end of a chain compares are finite.
   pub offsets-finite : T (indexed s) → Offsets m (query (i .window)) (evidence (s .«hop_ms») (i .window)) (lockFrom e (i .window) .accepted)

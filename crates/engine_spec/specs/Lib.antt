@@ -14,6 +14,7 @@ pub mod Lists
 pub mod Chain
 pub mod Guarantee
 pub mod Guaranteed
+pub mod Finite
 pub mod Figures
 pub mod Constants
 pub mod Lent

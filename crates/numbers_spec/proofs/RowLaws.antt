@@ -2,7 +2,7 @@
 use mathlib.Core.Path.{_≡_, refl, sym, subst, ap, _∙_}
 use Prim.Native.Nat.{ℕ, zero, suc, _+_, _-_, _*_, _<_, _≤_}
 use native.Mathlib.Nat.{suc-mul, mul-le-mul-right, not-suc-le-zero, eq-or-lt-of-le}
-use mathlib.Core.Bool.{Bool, true, false, _&&_}
+use mathlib.Core.Bool.{Bool, true, false, cond, _&&_}
 use mathlib.Core.Logic.{⊎-elim}
 use lib.Ieee.{Float, nan, add, le, ofBits}
 use Rattle.numbers_spec.specs.Arithmetic.{_⊕_}
@@ -15,7 +15,7 @@ use lib.Seq.{drop-length, getD-at, drop-cons, set-at, append-snoc, take-at, drop
 use Rattle.numbers_spec.specs.Logarithm.{logOf, log1pOf}
 use Rattle.numbers_spec.specs.Narrow.{nearestF32}
 use Rattle.numbers_spec.specs.Root.{rootOf}
-use Rattle.numbers_spec.specs.Rows.{tabulate, rows, row, allTo, sumTo, rootsOf, logsOf}
+use Rattle.numbers_spec.specs.Rows.{tabulate, rows, row, allTo, sumTo, tally, rootsOf, logsOf}
 
 module _ {A : Type 0} (f : ℕ → A) where
   pub length-tabulate : (n : ℕ) → length (tabulate f n) ≡ n
@@ -140,6 +140,16 @@ all-fails p (suc n) i h q = ⊎-elim
     and-false : (b : Bool) → b && false ≡ false
     and-false true = refl
     and-false false = refl
+
+-- at most n of n
+pub tally-few : (p : ℕ → Bool) (n : ℕ) → tally p n ≤ n
+unfolding tally
+tally-few p zero = omega arith
+tally-few p (suc n) = one-more (p n) (tally p n) (tally-few p n)
+  where
+    one-more : (b : Bool) (k : ℕ) → k ≤ n → cond b (suc k) k ≤ suc n
+    one-more true k h = omega arith
+    one-more false k h = omega arith
 
 -- ---- a loop that fills a list by a rule
 -- a store of the next element, where only the front is known
