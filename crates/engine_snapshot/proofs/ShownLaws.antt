@@ -16,50 +16,38 @@ use lib.Ieee.Fits.{neg-fits, up-pos}
 use lib.Ieee.Back.{whole-unique}
 use Rattle.numbers_spec.specs.Arithmetic.{zero⁺, magnitude}
 use Rattle.matcher_spec.specs.declared.types.Candidate.{Candidate}
-use Rattle.engine_spec.specs.Windows.{Window}
 use Rattle.engine_spec.specs.Opening.{blankCandidate}
-use Rattle.engine_spec.specs.Publishing.{comparableFrames, coverage, candidatesShown, candidateArray}
+use Rattle.engine_spec.specs.Publishing.{candidateShown, candidatesShown, candidateArray}
 use Rattle.engine_spec.specs.declared.types.CandidateDiagnostics.{CandidateDiagnostics}
 use Rattle.engine_spec.proofs.Tests.{and-l}
-use Rattle.engine_snapshot.specs.Shown.{shown, shownAll, shownArray}
-use Rattle.matcher_spec.specs.Limits.{candidatesMost}
 
 module _ (n : ℕ) (r : Float) where
-  snoc : (a : List Candidate) (c : Candidate) → shownAll n r (a ++ (c ∷ [])) ≡ shownAll n r a ++ (shown n r c ∷ [])
-  unfolding shownAll
+  snoc : (a : List Candidate) (c : Candidate) → candidatesShown n r (a ++ (c ∷ [])) ≡ candidatesShown n r a ++ (candidateShown n r c ∷ [])
+  unfolding candidatesShown
   snoc [] c = refl
-  snoc (x ∷ a) c = ap (λ (l : List CandidateDiagnostics). shown n r x ∷ l) (snoc a c)
+  snoc (x ∷ a) c = ap (λ (l : List CandidateDiagnostics). candidateShown n r x ∷ l) (snoc a c)
 
-  long : (a : List Candidate) → length (shownAll n r a) ≡ length a
-  unfolding shownAll
+  long : (a : List Candidate) → length (candidatesShown n r a) ≡ length a
+  unfolding candidatesShown
   long [] = refl
   long (x ∷ a) = ap suc (long a)
 
-  pub shown-none : (l : List Candidate) → replicate 8 blankCandidate ≡ shownArray n r (take 0 l)
-  unfolding shownAll
+  pub shown-none : (l : List Candidate) → replicate 8 blankCandidate ≡ candidateArray n r (take 0 l)
+  unfolding candidatesShown
   shown-none l = refl
 
-  next : (a : List Candidate) (c : Candidate) → length a < 8 → set (shownArray n r a) (length a) (shown n r c) ≡ shownArray n r (a ++ (c ∷ []))
+  next : (a : List Candidate) (c : Candidate) → length a < 8 → set (candidateArray n r a) (length a) (candidateShown n r c) ≡ candidateArray n r (a ++ (c ∷ []))
   next a c h =
       let e : 8 - length a ≡ suc (8 - (length a + 1)) = omega arith in
       rw (snoc a c, length-append, e)
-      (set-at (shownAll n r a) blankCandidate (replicate (8 - (length a + 1)) blankCandidate) (shown n r c) (length a) (long a)
-      ∙ sym (append-snoc (shownAll n r a) (shown n r c) (replicate (8 - (length a + 1)) blankCandidate)))
+      (set-at (candidatesShown n r a) blankCandidate (replicate (8 - (length a + 1)) blankCandidate) (candidateShown n r c) (length a) (long a)
+      ∙ sym (append-snoc (candidatesShown n r a) (candidateShown n r c) (replicate (8 - (length a + 1)) blankCandidate)))
 
-  pub shown-more : (l : List Candidate) (i : ℕ) (z : Candidate) → i < length l → i < 8 → set (shownArray n r (take i l)) i (shown n r (getD l i z)) ≡ shownArray n r (take (i + 1) l)
+  pub shown-more : (l : List Candidate) (i : ℕ) (z : Candidate) → i < length l → i < 8 → set (candidateArray n r (take i l)) i (candidateShown n r (getD l i z)) ≡ candidateArray n r (take (i + 1) l)
   shown-more l i z h k =
       let q : length (take i l) ≡ i = length-take-le i l (omega arith) in
       rw (add-one i, take-suc l i z h)
-      (subst (λ (j : ℕ). set (shownArray n r (take i l)) j (shown n r (getD l i z)) ≡ shownArray n r (take i l ++ (getD l i z ∷ []))) q (next (take i l) (getD l i z) (rw q k)))
-
-module _ (hop : Float) (w : Window) where
-  all-shown : (l : List Candidate) → shownAll (comparableFrames hop w) (coverage w) l ≡ candidatesShown hop w l
-  unfolding shownAll candidatesShown
-  all-shown [] = refl
-  all-shown (c ∷ l) = ap (λ (x : List CandidateDiagnostics). shown (comparableFrames hop w) (coverage w) c ∷ x) (all-shown l)
-
-  pub array-shown : (l : List Candidate) → shownArray (comparableFrames hop w) (coverage w) l ≡ candidateArray hop w l
-  array-shown l = ap (λ (x : List CandidateDiagnostics). x ++ replicate (candidatesMost - length l) blankCandidate) (all-shown l)
+      (subst (λ (j : ℕ). set (candidateArray n r (take i l)) j (candidateShown n r (getD l i z)) ≡ candidateArray n r (take i l ++ (getD l i z ∷ []))) q (next (take i l) (getD l i z) (rw q k)))
 
 -- ---- magnitudes
 is-T : {b : Bool} → b ≡ true → T b

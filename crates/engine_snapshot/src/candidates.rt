@@ -4,9 +4,8 @@ ghost use lib.ListN.{length};
 ghost use mathlib.Core.Path.{_≡_};
 ghost use Rattle.matcher_spec.specs.Candidates.{listed};
 ghost use Rattle.engine_spec.specs.Opening.{blankCandidate};
-ghost use Rattle.engine_spec.specs.Publishing.{comparableFrames, coverage};
+ghost use Rattle.engine_spec.specs.Publishing.{candidateArray, comparableFrames, coverage};
 ghost use Rattle.engine_spec.specs.Lent.{window};
-ghost use Rattle.engine_snapshot.specs.Shown.{shownArray};
 ghost use Rattle.matcher_spec.specs.Limits.{candidatesMost};
 use engine_spec::thresholds::TRIMMED_MS;
 use engine_spec::types::CandidateDiagnostics;
@@ -24,7 +23,7 @@ pub fn candidate_array(
     found: MatchResult,
 ) -> [CandidateDiagnostics; CANDIDATES_MOST]
     requires { ⌜ found .count ≤ candidatesMost ⌝ }
-    ensures { λ r. ⌜ r ≡ shownArray comparable coverage (listed found) ⌝ }
+    ensures { λ r. ⌜ r ≡ candidateArray comparable coverage (listed found) ⌝ }
 {
     let n = found.count;
     let candidates = found.candidates;

@@ -5,8 +5,9 @@ ghost use mathlib.Core.Bool.{cond};
 ghost use mathlib.Core.Path.{_≡_};
 ghost use Rattle.numbers_spec.specs.Arithmetic.{zero⁺, magnitude};
 ghost use Rattle.matcher_spec.specs.Candidates.{listed, marginOf};
-ghost use Rattle.engine_spec.specs.Publishing.{ambiguous, coverage, diagnosticsOf, isPublishing, magnitudeOf, trackCount};
+ghost use Rattle.engine_spec.specs.Publishing.{diagnosticsOf, magnitudeOf, trackCount};
 ghost use Rattle.engine_spec.specs.Lent.{window};
+ghost use Rattle.engine_spec.specs.Cases.{isPublishing};
 ghost use Rattle.engine_decision.specs.Decided.{decisionIn};
 ghost use Rattle.matcher_spec.specs.Limits.{candidatesMost};
 use crate::candidates::candidate_array;
@@ -17,18 +18,18 @@ use crate::spectral::spectral_of;
 use engine_decision::kinds::Decision;
 use engine_decision::verdict::is_ambiguous;
 use engine_readiness::active_fraction;
+use engine_spec::types::Configuration;
 use engine_spec::types::Diagnostics;
 use engine_spec::types::Hypothesis;
 use engine_spec::types::Maybe;
-use engine_spec::types::Settings;
 use engine_spec::types::State;
 use matcher_picks::candidates::margin;
 use matcher_spec::types::MatchResult;
-use numbers::whole::count;
 
 // All diagnostics. The track is counted as it stands after the window.
 pub fn diagnostics_of(
-    settings: Settings,
+    configuration: Configuration,
+    hop: f64,
     bands: usize,
     times: &[f64],
     energies: &[f64],
@@ -36,10 +37,9 @@ pub fn diagnostics_of(
     d: Decision,
 ) -> Diagnostics
     requires { ⌜ d .found .count ≤ candidatesMost ⌝ ∗ ⌜ 0 < length (now times) ⌝ ∗ ⌜ length (now times) ≤ length (now energies) ⌝ }
-    ensures { λ r. ⌜ r ≡ diagnosticsOf settings (window bands (now (times .entry)) (now (energies .entry)) (now (values .entry))) (decisionIn d) ⌝ }
+    ensures { λ r. ⌜ r ≡ diagnosticsOf configuration hop (window bands (now (times .entry)) (now (energies .entry)) (now (values .entry))) (decisionIn d) ⌝ }
 {
     let n = times.len();
-    let configuration = settings.configuration;
     let verdict = d.verdict;
     let state = verdict.state;
     let innovation = verdict.innovation;
@@ -53,7 +53,7 @@ pub fn diagnostics_of(
     let dense = dense_margin(d.global, found);
     let stability = magnitude_of(innovation);
     let track_count = track_count(accepted);
-    let comparable = comparable_frames(settings.hop_ms, bands, times, energies, values);
+    let comparable = comparable_frames(hop, bands, times, energies, values);
     let covered = coverage(bands, times, energies, values);
     let candidates = candidate_array(comparable, covered, found);
     let candidate_count = found_count(found);

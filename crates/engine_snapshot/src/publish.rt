@@ -5,34 +5,33 @@ ghost use mathlib.Core.Bool.{cond};
 ghost use mathlib.Core.Path.{_≡_};
 ghost use Rattle.matcher_spec.specs.Candidates.{listed};
 ghost use Rattle.matcher_spec.specs.declared.types.Candidate.{Candidate};
-ghost use Rattle.engine_spec.specs.Publishing.{betweenZeroAndOne, confidenceOf, estimateAt, isPublishing, ofBest, phaseOf, publish, stageOf, trackCorrelation};
+ghost use Rattle.engine_spec.specs.Publishing.{betweenZeroAndOne, confidenceOf, estimateAt, ofBest, phaseOf, publish, stageOf, trackCorrelation};
 ghost use Rattle.engine_spec.specs.Lent.{window};
-ghost use Rattle.engine_lock.specs.Views.{endingAt, reachedIn};
+ghost use Rattle.engine_spec.specs.Cases.{isPublishing};
 ghost use Rattle.engine_decision.specs.Decided.{decisionIn};
 ghost use Rattle.matcher_spec.specs.Limits.{candidatesMost};
 use crate::diagnostics::diagnostics_of;
 use crate::diagnostics::is_publishing;
 use crate::spectral::best_or_blank;
 use engine_decision::kinds::Decision;
-use engine_lock::kinds::Reached;
 use engine_spec::thresholds::COAST_MOST_MS;
+use engine_spec::types::Configuration;
 use engine_spec::types::Estimate;
 use engine_spec::types::Hypothesis;
 use engine_spec::types::LockPhase;
 use engine_spec::types::Maybe;
 use engine_spec::types::Milestones;
+use engine_spec::types::Reached;
 use engine_spec::types::RecordedMs;
 use engine_spec::types::ReferenceMs;
-use engine_spec::types::Settings;
 use engine_spec::types::Snapshot;
 use engine_spec::types::Stage;
 use engine_spec::types::State;
-use matcher_spec::types::Candidate;
-use numbers::whole::count;
 
 // The one place where a snapshot is made of a decision; the milestones' readings are as given.
 pub fn publish(
-    settings: Settings,
+    configuration: Configuration,
+    hop: f64,
     bands: usize,
     times: &[f64],
     energies: &[f64],
@@ -41,7 +40,7 @@ pub fn publish(
     milestones: Milestones,
 ) -> Snapshot
     requires { ⌜ d .found .count ≤ candidatesMost ⌝ ∗ ⌜ 0 < length (now times) ⌝ ∗ ⌜ length (now times) ≤ length (now energies) ⌝ }
-    ensures { λ r. ⌜ r ≡ publish settings (window bands (now (times .entry)) (now (energies .entry)) (now (values .entry))) (decisionIn d) milestones ⌝ }
+    ensures { λ r. ⌜ r ≡ publish configuration hop (window bands (now (times .entry)) (now (energies .entry)) (now (values .entry))) (decisionIn d) milestones ⌝ }
 {
     let n = times.len();
     let verdict = d.verdict;
@@ -49,12 +48,15 @@ pub fn publish(
     let offset = verdict.offset;
     let withhold_reason = verdict.reason;
     let reached = d.reached;
+    let first_provisional_lock_elapsed_ms = milestones.first_provisional_ms;
+    let confirmed_lock_elapsed_ms = milestones.confirmed_ms;
+    let final_lock_elapsed_ms = milestones.final_ms;
     let phase = phase_of(reached);
     let stage = stage_of(state, d.global);
     let estimate = estimate_at(RecordedMs(times[n - 1]), offset);
     let correlation = correlation_of(d);
     let confidence = confidence_of(offset, correlation, verdict.coast);
-    let diagnostics = diagnostics_of(settings, bands, times, energies, values, d);
+    let diagnostics = diagnostics_of(configuration, hop, bands, times, energies, values, d);
     Snapshot {
         state,
         phase,
@@ -63,13 +65,15 @@ pub fn publish(
         withhold_reason,
         confidence,
         diagnostics,
-        milestones,
+        first_provisional_lock_elapsed_ms,
+        confirmed_lock_elapsed_ms,
+        final_lock_elapsed_ms,
     }
 }
 
 // The furthest milestone that is there.
 fn phase_of(k: Reached) -> LockPhase
-    ensures { λ r. ⌜ r ≡ phaseOf (reachedIn k) ⌝ }
+    ensures { λ r. ⌜ r ≡ phaseOf k ⌝ }
 {
     if k.final_lock {
         return LockPhase::Final;
@@ -98,7 +102,7 @@ fn stage_of(s: State, global: bool) -> Stage
 
 // The offset added to the window's endpoint is the place on the reference.
 pub fn estimate_at(endpoint: RecordedMs, offset: Maybe) -> Estimate
-    ensures { λ r. ⌜ r ≡ estimateAt (endingAt endpoint) offset ⌝ }
+    ensures { λ r. ⌜ r ≡ estimateAt endpoint offset ⌝ }
 {
     match offset {
         Maybe::Absent => Estimate::Absent,

@@ -17,7 +17,6 @@ use matcher_picks::candidates::margin;
 use matcher_spec::types::Candidate;
 use matcher_spec::types::MatchResult;
 use numbers::float::at_least;
-use numbers::whole::count;
 
 // The best candidate's correlations, the margin of a whole search, pending's evidence, the coast.
 pub fn spectral_of(d: Decision) -> SpectralDiagnostics

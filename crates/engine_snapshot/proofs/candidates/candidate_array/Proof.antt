@@ -5,14 +5,13 @@ use mathlib.Core.Path.{_≡_}
 use lib.ListN.{length, take}
 use borrow.Author.Needs.{needs}
 use Rattle.matcher_spec.proofs.CandidateLaws.{eight}
-use Rattle.engine_spec.specs.Publishing.{coverage}
+use Rattle.engine_spec.specs.Publishing.{candidateArray}
 use Rattle.engine_snapshot.proofs.ShownLaws.{shown-none, shown-more}
-use Rattle.engine_snapshot.specs.Shown.{shownArray}
 use Rattle.engine_snapshot.proofs.candidates.candidate_array.Statement.{statement}
 use Rattle.engine_snapshot.proofs.candidates.candidate_array.Tie as tie
 
 abbrev Inv-loop : tie.InvT-loop
-Inv-loop comparable coverage n candidates rows₀ i₀ rows i = (i ≤ n) × (n ≤ 8) × (length candidates ≡ 8) × (rows ≡ shownArray comparable coverage (take i candidates))
+Inv-loop comparable coverage n candidates rows₀ i₀ rows i = (i ≤ n) × (n ≤ 8) × (length candidates ≡ 8) × (rows ≡ candidateArray comparable coverage (take i candidates))
 
 abbrev μ-loop : tie.MeasureT-loop
 μ-loop comparable coverage n candidates rows₀ i₀ rows i = n - i

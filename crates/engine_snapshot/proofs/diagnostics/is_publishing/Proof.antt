@@ -1,6 +1,6 @@
 -- `engine_snapshot::diagnostics::is_publishing` meets its contract. Assumes nothing.
 use borrow.Author.Needs.{needs}
-use Rattle.engine_spec.specs.Publishing.{isPublishing}
+use Rattle.engine_spec.specs.Cases.{isPublishing}
 use Rattle.engine_snapshot.proofs.diagnostics.is_publishing.Statement.{statement}
 use Rattle.engine_snapshot.proofs.diagnostics.is_publishing.Tie as tie
 
