@@ -1,12 +1,9 @@
 // The answers to a window: refused, read again, or computed.
 ghost use Prim.Native.Nat.{_<_, _≤_};
 ghost use lib.ListN.{length};
-ghost use mathlib.Core.List.{[]};
 ghost use mathlib.Core.Path.{_≡_};
-ghost use Rattle.engine_spec.specs.Submitting.{computedFrom, moved, refused, reread};
-ghost use Rattle.matcher_spec.specs.Index.{lent};
-ghost use Rattle.engine_spec.specs.Lent.{handed, window};
-ghost use Rattle.engine_lock.specs.Views.{endingAt};
+ghost use Rattle.engine_spec.specs.Submitting.{computedFrom, moved, refused, reread, shownAgain};
+ghost use Rattle.engine_spec.specs.Lent.{window};
 ghost use Rattle.engine_decision.specs.Decided.{decisionIn};
 ghost use Rattle.matcher_spec.specs.Limits.{candidatesMost};
 use crate::fresh::blank_snapshot;
@@ -21,35 +18,20 @@ use engine_spec::types::Engine;
 use engine_spec::types::Estimate;
 use engine_spec::types::Last;
 use engine_spec::types::Maybe;
+use engine_spec::types::Milestones;
 use engine_spec::types::RecordedMs;
+use engine_spec::types::Refusal;
 use engine_spec::types::Snapshot;
 use engine_spec::types::SubmitResult;
 
-// A re-reading: the last snapshot with its estimate moved to this endpoint and the engine's own
-// milestones. The engine stays as it is.
+// A re-reading: the last snapshot shown again. The engine stays as it is.
 pub fn reread(engine: Engine, endpoint: RecordedMs) -> SubmitResult
-    ensures { λ r. ⌜ r ≡ reread engine (endingAt endpoint) ⌝ }
+    ensures { λ r. ⌜ r ≡ reread engine endpoint ⌝ }
 {
     let last = engine.last;
-    let s = last.snapshot;
+    let shown = last.snapshot;
     let milestones = engine.milestones;
-    let state = s.state;
-    let phase = s.phase;
-    let stage = s.stage;
-    let old = s.estimate;
-    let estimate = moved(endpoint, old);
-    let withhold_reason = s.withhold_reason;
-    let diagnostics = s.diagnostics;
-    let snapshot = Snapshot {
-        state,
-        phase,
-        stage,
-        estimate,
-        withhold_reason,
-        confidence: s.confidence,
-        diagnostics,
-        milestones,
-    };
+    let snapshot = shown_again(endpoint, milestones, shown);
     SubmitResult {
         answer: Answer::Reread,
         engine,
@@ -57,9 +39,37 @@ pub fn reread(engine: Engine, endpoint: RecordedMs) -> SubmitResult
     }
 }
 
+// A snapshot with its estimate moved to this endpoint, and with the engine's own milestones.
+fn shown_again(endpoint: RecordedMs, milestones: Milestones, snapshot: Snapshot) -> Snapshot
+    ensures { λ r. ⌜ r ≡ shownAgain endpoint milestones snapshot ⌝ }
+{
+    let state = snapshot.state;
+    let phase = snapshot.phase;
+    let stage = snapshot.stage;
+    let old = snapshot.estimate;
+    let estimate = moved(endpoint, old);
+    let withhold_reason = snapshot.withhold_reason;
+    let diagnostics = snapshot.diagnostics;
+    let first_provisional_lock_elapsed_ms = milestones.first_provisional_ms;
+    let confirmed_lock_elapsed_ms = milestones.confirmed_ms;
+    let final_lock_elapsed_ms = milestones.final_ms;
+    Snapshot {
+        state,
+        phase,
+        stage,
+        estimate,
+        withhold_reason,
+        confidence: snapshot.confidence,
+        diagnostics,
+        first_provisional_lock_elapsed_ms,
+        confirmed_lock_elapsed_ms,
+        final_lock_elapsed_ms,
+    }
+}
+
 // An estimate moved to another endpoint.
 fn moved(endpoint: RecordedMs, e: Estimate) -> Estimate
-    ensures { λ r. ⌜ r ≡ moved (endingAt endpoint) e ⌝ }
+    ensures { λ r. ⌜ r ≡ moved endpoint e ⌝ }
 {
     match e {
         Estimate::Absent => Estimate::Absent,
@@ -82,22 +92,33 @@ pub fn computed_from(
     d: Decision,
 ) -> SubmitResult
     requires { ⌜ d .found .count ≤ candidatesMost ⌝ ∗ ⌜ 0 < length (now times) ⌝ ∗ ⌜ length (now times) ≤ length (now energies) ⌝ }
-    ensures { λ r. ⌜ r ≡ computedFrom engine (handed (lent [] [] [] []) (window bands (now (times .entry)) (now (energies .entry)) (now (values .entry))) clock 0 0) (decisionIn d) ⌝ }
+    ensures { λ r. ⌜ r ≡ computedFrom engine (window bands (now (times .entry)) (now (energies .entry)) (now (values .entry))) clock (decisionIn d) ⌝ }
 {
     let n = times.len();
     let endpoint = RecordedMs(times[n - 1]);
+    let configuration = engine.configuration;
     let settings = engine.settings;
     let old = engine.milestones;
     let reached = d.reached;
     let lock = d.lock;
     let milestones = stamp(old, reached, clock);
-    let snapshot = publish(settings, bands, times, energies, values, d, milestones);
+    let snapshot = publish(
+        configuration,
+        settings.hop_ms,
+        bands,
+        times,
+        energies,
+        values,
+        d,
+        milestones,
+    );
     let last = Last {
         endpoint_ms: Endpoint::At(endpoint),
         has_snapshot: true,
         snapshot,
     };
     let next = Engine {
+        configuration,
         settings,
         lock,
         milestones,
@@ -111,12 +132,12 @@ pub fn computed_from(
 }
 
 // The same engine, and no snapshot.
-pub fn refused(engine: Engine, answer: Answer) -> SubmitResult
-    ensures { λ r. ⌜ r ≡ refused engine answer ⌝ }
+pub fn refused(engine: Engine, refusal: Refusal) -> SubmitResult
+    ensures { λ r. ⌜ r ≡ refused engine refusal ⌝ }
 {
     let snapshot = blank_snapshot();
     SubmitResult {
-        answer,
+        answer: Answer::Refused(refusal),
         engine,
         snapshot,
     }

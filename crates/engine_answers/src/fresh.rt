@@ -3,7 +3,8 @@ ghost use Prim.Native.Nat.{_<_, _≤_};
 ghost use lib.ListN.{length};
 ghost use mathlib.Core.List.{[]};
 ghost use mathlib.Core.Path.{_≡_};
-ghost use Rattle.engine_spec.specs.Opening.{blankSnapshot, freshEngine, noEngine, noMilestones, withIndex, withoutIndex};
+ghost use Rattle.engine_spec.specs.Opening.{blankSnapshot, freshEngine, noEngine, withIndex, withoutIndex};
+ghost use Rattle.engine_spec.specs.Milestones.{noMilestones};
 ghost use Rattle.matcher_spec.specs.Features.{features};
 ghost use Rattle.matcher_spec.specs.Limits.{framesMost, bandsMost};
 use engine_decision::windows::no_lock;
@@ -28,8 +29,8 @@ use engine_spec::types::WithholdReason;
 use matcher_spec::limits::CANDIDATES_MOST;
 
 // No endpoint, snapshot, place or milestone.
-pub fn fresh_engine(settings: Settings) -> Engine
-    ensures { λ r. ⌜ r ≡ freshEngine settings ⌝ }
+pub fn fresh_engine(configuration: Configuration, settings: Settings) -> Engine
+    ensures { λ r. ⌜ r ≡ freshEngine configuration settings ⌝ }
 {
     let lock = no_lock();
     let milestones = no_milestones();
@@ -40,6 +41,7 @@ pub fn fresh_engine(settings: Settings) -> Engine
         snapshot,
     };
     Engine {
+        configuration,
         settings,
         lock,
         milestones,
@@ -58,16 +60,15 @@ pub fn no_engine() -> Engine
         minimum_average_energy_dbfs: 0.0,
         minimum_active_frame_fraction: 0.0,
     };
-    fresh_engine(without_index(configuration, 0.0))
+    fresh_engine(configuration, without_index(0.0))
 }
 
 // The reference's counts and start.
-pub fn with_index(configuration: Configuration, hop: f64, bands: usize, times: &[f64]) -> Settings
+pub fn with_index(hop: f64, bands: usize, times: &[f64]) -> Settings
     requires { ⌜ 0 < length (now times) ⌝ ∗ ⌜ length (now times) ≤ framesMost ⌝ ∗ ⌜ bands ≤ bandsMost ⌝ }
-    ensures { λ r. ⌜ r ≡ withIndex configuration hop (features bands (now (times .entry)) []) ⌝ }
+    ensures { λ r. ⌜ r ≡ withIndex hop (features bands (now (times .entry)) []) ⌝ }
 {
     Settings {
-        configuration,
         hop_ms: hop,
         reference_frames: times.len() as u16,
         reference_bands: bands as u16,
@@ -76,11 +77,10 @@ pub fn with_index(configuration: Configuration, hop: f64, bands: usize, times: &
 }
 
 // Counts and start are 0.
-pub fn without_index(configuration: Configuration, hop: f64) -> Settings
-    ensures { λ r. ⌜ r ≡ withoutIndex configuration hop ⌝ }
+pub fn without_index(hop: f64) -> Settings
+    ensures { λ r. ⌜ r ≡ withoutIndex hop ⌝ }
 {
     Settings {
-        configuration,
         hop_ms: hop,
         reference_frames: 0,
         reference_bands: 0,
@@ -93,7 +93,6 @@ pub fn blank_snapshot() -> Snapshot
     ensures { λ r. ⌜ r ≡ blankSnapshot ⌝ }
 {
     let diagnostics = blank_diagnostics();
-    let milestones = no_milestones();
     Snapshot {
         state: State::Ready,
         phase: LockPhase::None,
@@ -102,7 +101,9 @@ pub fn blank_snapshot() -> Snapshot
         withhold_reason: WithholdReason::None,
         confidence: 0.0,
         diagnostics,
-        milestones,
+        first_provisional_lock_elapsed_ms: Milestone::Absent,
+        confirmed_lock_elapsed_ms: Milestone::Absent,
+        final_lock_elapsed_ms: Milestone::Absent,
     }
 }
 

@@ -1,15 +1,15 @@
 // Milestones: which are there, and the one place where a clock reading is written.
 ghost use mathlib.Core.Path.{_≡_};
-ghost use Rattle.engine_spec.specs.Submitting.{isThere, reachedBy, stamp, stampedOnce, stampedWithFinal};
-ghost use Rattle.engine_lock.specs.Views.{reachedIn};
-use engine_lock::kinds::Reached;
+ghost use Rattle.engine_spec.specs.Cases.{isThere};
+ghost use Rattle.engine_spec.specs.Milestones.{reachedBy, stamp, stampedOnce, stampedWithFinal};
 use engine_spec::types::ClockMs;
 use engine_spec::types::Milestone;
 use engine_spec::types::Milestones;
+use engine_spec::types::Reached;
 
 // Which milestones are there: all that a decision knows of them.
 pub fn reached_by(m: Milestones) -> Reached
-    ensures { λ r. ⌜ reachedIn r ≡ reachedBy m ⌝ }
+    ensures { λ r. ⌜ r ≡ reachedBy m ⌝ }
 {
     let first = m.first_provisional_ms;
     let second = m.confirmed_ms;
@@ -26,7 +26,7 @@ pub fn reached_by(m: Milestones) -> Reached
 
 // The one place where a clock reading is written.
 pub fn stamp(m: Milestones, k: Reached, clock: ClockMs) -> Milestones
-    ensures { λ r. ⌜ r ≡ stamp m (reachedIn k) clock ⌝ }
+    ensures { λ r. ⌜ r ≡ stamp m k clock ⌝ }
 {
     let first = m.first_provisional_ms;
     let second = m.confirmed_ms;

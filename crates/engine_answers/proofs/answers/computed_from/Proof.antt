@@ -1,9 +1,6 @@
 -- `engine_answers::answers::computed_from` meets its contract. Assumes nothing.
-use mathlib.Core.List.{[]}
 use borrow.Author.Needs.{needs}
-use Rattle.engine_spec.specs.Submitting.{stamp}
-use Rattle.matcher_spec.specs.Index.{lent}
-use Rattle.engine_spec.specs.Lent.{window, handed}
+use Rattle.engine_spec.specs.Lent.{window}
 use Rattle.engine_decision.specs.Decided.{decisionIn}
 use Rattle.engine_answers.proofs.AnswerLaws.{computed-is}
 use Rattle.engine_answers.proofs.answers.computed_from.Statement.{statement}
@@ -11,9 +8,9 @@ use Rattle.engine_answers.proofs.answers.computed_from.Tie as tie
 
 returns : tie.Need-returns
 returns c =
-    let a = c .before .before .before .before .before .before .before .before .before .before .args in
+    let a = c .before .before .before .before .before .before .before .before .before .before .before .args in
     let w = window (a .bands) (a .times .now) (a .energies .now) (a .values .now) in
-    computed-is (a .engine) (handed (lent [] [] [] []) w (a .clock) 0 0) (decisionIn (a .d)) (c .before .stamp .ensures) (c .publish .ensures)
+    computed-is (a .engine) w (a .clock) (decisionIn (a .d)) (c .before .stamp .ensures) (c .publish .ensures)
 
 pub computed-from-spec : {M : Type 1} → statement M
 computed-from-spec =

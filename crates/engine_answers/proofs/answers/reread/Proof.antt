@@ -7,7 +7,7 @@ use Rattle.engine_answers.proofs.answers.reread.Tie as tie
 
 returns : tie.Need-returns
 unfolding reread
-returns c = rw (c .before .moved .ensures) refl
+returns c = rw (c .shown-again .ensures) refl
 
 pub reread-spec : {M : Type 1} → statement M
 reread-spec = tie.close (tie.spec (λ c κs. search needs) returns)

@@ -8,8 +8,7 @@ use Rattle.engine_answers.proofs.fresh.blank_snapshot.Tie as tie
 
 returns : tie.Need-returns
 unfolding blankSnapshot ofBits
-returns c = rw (c .before .blank-diagnostics .ensures, c .no-milestones .ensures) refl
+returns c = rw (c .blank-diagnostics .ensures) refl
 
 pub blank-snapshot-spec : {M : Type 1} → statement M
-blank-snapshot-spec =
-    tie.close (tie.spec (λ c κs. search needs) (λ c κs. search needs) returns)
+blank-snapshot-spec = tie.close (tie.spec (λ c κs. search needs) returns)

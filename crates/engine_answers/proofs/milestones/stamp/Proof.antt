@@ -1,6 +1,6 @@
 -- `engine_answers::milestones::stamp` meets its contract. Assumes nothing.
 use borrow.Author.Needs.{needs}
-use Rattle.engine_spec.specs.Submitting.{stamp}
+use Rattle.engine_spec.specs.Milestones.{stamp}
 use Rattle.engine_answers.proofs.milestones.stamp.Statement.{statement}
 use Rattle.engine_answers.proofs.milestones.stamp.Tie as tie
 
