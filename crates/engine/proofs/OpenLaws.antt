@@ -1,85 +1,41 @@
 -- Opening by its cases. Assumes nothing.
-use Prim.Native.Nat.{ℕ, _+_, _-_, _*_, _/_, _≤_, _<_, suc}
+use Prim.Native.Nat.{ℕ, _-_, _<_, suc}
 use native.Mathlib.Omega.{arith}
 use mathlib.Core.Bool.{Bool, true, false, cond, not, _&&_}
 use mathlib.Core.List.{List}
-use mathlib.Core.Path.{_≡_, refl, sym, ap, subst, _∙_}
-use lib.Dec.{T, ltb, leb, eqb, ltb→lt, leb→le, eqb→eq}
+use mathlib.Core.Path.{_≡_, sym, ap, subst, _∙_}
+use lib.Dec.{T, ltb, ltb→lt}
 use lib.ListN.{length, getD}
-use lib.Ieee.{Float, nan, lt, le}
+use lib.Ieee.{Float, nan, lt}
 use lib.Ieee.Scale.{finite}
 use Rattle.numbers_spec.specs.Arithmetic.{zero⁺}
-use Rattle.numbers_spec.specs.Rows.{allTo, every}
-use Rattle.matcher_spec.specs.Centring.{wideHop}
+use Rattle.numbers_spec.specs.Rows.{allTo}
 use Rattle.matcher_spec.specs.Timeline.{regular, onTime, validValues}
-use Rattle.matcher_spec.specs.Energy.{reduction}
 use Rattle.matcher_spec.specs.Index.{Index, acceptsReference, filled}
 use Rattle.matcher_spec.specs.Features.{Features}
-use Rattle.engine_spec.specs.Refusals.{numberOf, refuses, nearOrNotFinite, validConfiguration, hopInRange, countsInRange, indexFits, openingRefusal}
-use Rattle.engine_spec.specs.Opening.{noEngine, freshEngine, withIndex, withoutIndex, acceptsFeatures, openedSettings, opening, fills, matcherOfReference, openedIndex}
+use Rattle.engine_spec.specs.Refusals.{refuses, openingRefusal}
+use Rattle.engine_spec.specs.Opening.{noEngine, freshEngine, withIndex, withoutIndex, acceptsFeatures, opening, fills, matcherOfReference, openedIndex}
 use Rattle.engine_spec.specs.declared.types.Configuration.{Configuration}
 use Rattle.engine_spec.specs.declared.types.Settings.{Settings}
 use Rattle.engine_spec.specs.declared.types.Engine.{Engine}
 use Rattle.engine_spec.specs.declared.types.OpenResult.{OpenResult}
-use Rattle.engine_spec.specs.declared.types.Answer.{Answer}
 use Rattle.engine_spec.specs.declared.types.Answer.the-variants as answer
-use Rattle.engine_spec.proofs.Tests.{and-l, and-r, T-is}
-use Rattle.engine_spec.proofs.Handed.{passed}
-use Rattle.matcher_spec.specs.Limits.{hopLeast, hopMost, framesMost, bandsMost}
-
-pub record OpenRoom (hop : Float) (reference : Features) (x : Index) : Type 0 where
-  pub wide : wideHop hop ≡ true
-  pub frames : length (reference .times) ≤ framesMost
-  pub bands : reference .bands ≤ bandsMost
-  pub values : length (reference .values) ≡ reference .bands * length (reference .times)
-  pub fine : reference .bands * length (reference .times) ≤ length (x .fine)
-  pub coarse : reference .bands * (length (reference .times) / 4) ≤ length (x .coarse)
-  pub fine-energy : reference .bands * (length (reference .times) + 1) ≤ length (x .fineEnergy)
-  pub coarse-energy : reference .bands * (length (reference .times) / 4 + 1) ≤ length (x .coarseEnergy)
+use Rattle.engine_spec.specs.declared.types.Refusal.{Refusal}
+use Rattle.engine_spec.proofs.Tests.{and-l}
 
 module _ (c : Configuration) (hop : Float) (reference : Features) (x : Index) where
-  pub open-room : refuses (openingRefusal c hop reference x) ≡ false → OpenRoom hop reference x
-  unfolding openingRefusal numberOf indexFits
-  open-room e =
-      let n = length (reference .times) in
-      let b = reference .bands in
-      let p₁ = passed (validConfiguration c) answer.InvalidConfiguration _ tt e in
-      let p₂ = passed (hopInRange hop) answer.HopOutOfRange _ tt (p₁ .on) in
-      let p₃ = passed (countsInRange n b) answer.ReferenceTooLarge _ tt (p₂ .on) in
-      let p₄ = passed (eqb (length (reference .values)) (b * n)) answer.ReferenceMiscounted _ tt (p₃ .on) in
-      let p₅ = passed (every nearOrNotFinite (reference .times)) answer.ReferenceTimeTooFar _ tt (p₄ .on) in
-      let p₆ = passed (indexFits n b x) answer.IndexTooShort _ tt (p₅ .on) in
-      let fine = leb (b * n) (length (x .fine)) in
-      let coarse = leb (b * (n / reduction)) (length (x .coarse)) in
-      let fines = leb (b * (n + 1)) (length (x .fineEnergy)) in
-      let coarses = leb (b * (n / reduction + 1)) (length (x .coarseEnergy)) in
-      let i₁ = and-r fine (coarse && (fines && coarses)) (p₆ .here) in
-      let i₂ = and-r coarse (fines && coarses) i₁ in
-      record {
-        wide = T-is _ (and-l (le hopLeast hop) (le hop hopMost) (p₂ .here));
-        frames = leb→le n framesMost (and-l (leb n framesMost) (leb b bandsMost) (p₃ .here));
-        bands = leb→le b bandsMost (and-r (leb n framesMost) (leb b bandsMost) (p₃ .here));
-        values = eqb→eq (length (reference .values)) (b * n) (p₄ .here);
-        fine = leb→le (b * n) (length (x .fine)) (and-l fine (coarse && (fines && coarses)) (p₆ .here));
-        coarse = leb→le (b * (n / reduction)) (length (x .coarse)) (and-l coarse (fines && coarses) i₁);
-        fine-energy = leb→le (b * (n + 1)) (length (x .fineEnergy)) (and-l fines coarses i₂);
-        coarse-energy = leb→le (b * (n / reduction + 1)) (length (x .coarseEnergy)) (and-r fines coarses i₂);
-      }
-
-  abbrev refusal : Answer
+  abbrev refusal : Refusal
   refusal = openingRefusal c hop reference x
 
-  pub opening-refused : {r : Answer} {e : Engine} → r ≡ refusal → e ≡ noEngine → refuses refusal ≡ true → _≡_ {A = OpenResult} record { answer = r; engine = e } (opening c hop reference x)
+  pub opening-refused : {r : Refusal} {e : Engine} → r ≡ refusal → e ≡ noEngine → refuses refusal ≡ true → _≡_ {A = OpenResult} record { answer = answer.Refused r; engine = e } (opening c hop reference x)
   unfolding opening
-  opening-refused q g p =
-      let t : noEngine ≡ cond (refuses refusal) noEngine (freshEngine (openedSettings c hop reference)) = rw p refl in
-      λ i. record { answer = q i; engine = (g ∙ t) i }
+  opening-refused q g p = rw p (λ i. record { answer = answer.Refused (q i); engine = g i })
 
-  pub opening-answered : {r : Answer} {e : Engine} {b : Bool} → r ≡ refusal → refuses refusal ≡ false → b ≡ acceptsFeatures hop reference → e ≡ freshEngine (cond b (withIndex c hop reference) (withoutIndex c hop)) → _≡_ {A = OpenResult} record { answer = r; engine = e } (opening c hop reference x)
+  pub opening-answered : {e : Engine} {s : Settings} {b : Bool} → refuses refusal ≡ false → b ≡ acceptsFeatures hop reference → s ≡ cond b (withIndex hop reference) (withoutIndex hop) → e ≡ freshEngine c s → _≡_ {A = OpenResult} record { answer = answer.Opened; engine = e } (opening c hop reference x)
   unfolding opening
-  opening-answered q p y g =
-      let t : freshEngine (openedSettings c hop reference) ≡ cond (refuses refusal) noEngine (freshEngine (openedSettings c hop reference)) = rw p refl in
-      λ i. record { answer = q i; engine = (g ∙ ap (λ (z : Bool). freshEngine (cond z (withIndex c hop reference) (withoutIndex c hop))) y ∙ t) i }
+  opening-answered p y q g =
+      let settled = q ∙ ap (λ (z : Bool). cond z (withIndex hop reference) (withoutIndex hop)) y in
+      rw p (λ i. record { answer = answer.Opened; engine = (g ∙ ap (λ (s : Settings). freshEngine c s) settled) i })
 
   -- the buffers
   filled-by : (flag : Bool) → fills c hop reference x ≡ flag → _≡_ {A = Index} record {
@@ -108,13 +64,6 @@ module _ (c : Configuration) (hop : Float) (reference : Features) (x : Index) wh
   index-filled h {b = b} y p q r t =
       let e : fills c hop reference x ≡ b = ap (λ (z : Bool). not z && acceptsFeatures hop reference) h ∙ sym y in
       (λ i. record { fine = p i; coarse = q i; fineEnergy = r i; coarseEnergy = t i }) ∙ filled-by b e
-
-module _ (c : Configuration) (hop : Float) (reference : Features) where
-  pub fresh-with : {b : Bool} {s : Settings} → s ≡ withIndex c hop reference → b ≡ true → freshEngine s ≡ freshEngine (cond b (withIndex c hop reference) (withoutIndex c hop))
-  fresh-with q e = rw (e, q) refl
-
-  pub fresh-without : {b : Bool} {s : Settings} → s ≡ withoutIndex c hop → b ≡ false → freshEngine s ≡ freshEngine (cond b (withIndex c hop reference) (withoutIndex c hop))
-  fresh-without q e = rw (e, q) refl
 
 pub accepted-frames : (hop : Float) (reference : Features) {b : Bool} → b ≡ acceptsFeatures hop reference → b ≡ true → 0 < length (reference .times)
 unfolding acceptsReference regular

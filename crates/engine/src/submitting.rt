@@ -3,7 +3,7 @@ ghost use lib.ListN.{length};
 ghost use mathlib.Core.Bool.{true};
 ghost use mathlib.Core.Path.{_≡_};
 ghost use Rattle.numbers_spec.specs.Rows.{Every, F32};
-ghost use Rattle.engine_spec.specs.Refusals.{refuses};
+ghost use Rattle.engine_spec.specs.Cases.{isRefused};
 ghost use Rattle.engine_spec.specs.Submitting.{answeredFrom, submit};
 ghost use Rattle.matcher_spec.specs.Index.{lent};
 ghost use Rattle.engine_spec.specs.Lent.{handed, window};
@@ -41,11 +41,11 @@ pub fn submit(
     work64: &mut [f64],
 ) -> SubmitResult
     ensures { λ r. ⌜ r ≡ submit engine (handed (lent (now (fine .entry)) (now (coarse .entry)) (now («fine_energy» .entry)) (now («coarse_energy» .entry))) (window bands (now (times .entry)) (now (energies .entry)) (now (values .entry))) clock (length (now (work32 .entry))) (length (now (work64 .entry)))) ⌝ }
-    ensures untouched { λ r. ⌜ (refuses (r .answer) ≡ true → (now (work32 .exit) ≡ now (work32 .entry)) × (now (work64 .exit) ≡ now (work64 .entry))) ⌝ }
+    ensures untouched { λ r. ⌜ (isRefused (r .answer) ≡ true → (now (work32 .exit) ≡ now (work32 .entry)) × (now (work64 .exit) ≡ now (work64 .entry))) ⌝ }
     ensures lengths { λ r. ⌜ (length (now (work32 .exit)) ≡ length (now (work32 .entry))) × (length (now (work64 .exit)) ≡ length (now (work64 .entry))) ⌝ }
     ensures held { λ r. ⌜ Every F32 (now (values .entry)) ⌝ }
 {
-    let answer = submission_refusal(
+    let refusal = submission_refusal(
         engine,
         fine,
         coarse,
@@ -59,8 +59,8 @@ pub fn submit(
         work32.len(),
         work64.len(),
     );
-    if is_refusal(answer) {
-        return refused(engine, answer);
+    if is_refusal(refusal) {
+        return refused(engine, refusal);
     }
     answered(
         engine,
@@ -97,6 +97,7 @@ fn answered(
     ensures { λ r. ⌜ r ≡ answeredFrom engine (handed (lent (now (fine .entry)) (now (coarse .entry)) (now («fine_energy» .entry)) (now («coarse_energy» .entry))) (window bands (now (times .entry)) (now (energies .entry)) (now (values .entry))) clock (length (now (work32 .entry))) (length (now (work64 .entry)))) ⌝ }
 {
     let n = times.len();
+    let configuration = engine.configuration;
     let settings = engine.settings;
     let last = engine.last;
     if is_reread(settings, last, bands, times, energies, values) {
@@ -106,6 +107,8 @@ fn answered(
     let reached = reached_by(milestones);
     let lock = lock_from(engine, bands, times, energies, values);
     let d = decide(
+        true,
+        configuration,
         settings,
         fine,
         coarse,

@@ -1,12 +1,13 @@
 // How long ago the lock that is shown was last supported.
-ghost use mathlib.Core.Bool.{true};
 ghost use mathlib.Core.Path.{_≡_};
-ghost use Rattle.engine_spec.specs.SupportAge.{isLocked, supportAge};
+ghost use Rattle.engine_spec.specs.SupportAge.{coastShown, supportAge};
+ghost use Rattle.engine_spec.specs.Cases.{isLocked};
 use engine_refusals::states::is_valid_engine;
 use engine_spec::types::Age;
-use engine_spec::types::Answer;
 use engine_spec::types::Engine;
 use engine_spec::types::Maybe;
+use engine_spec::types::Refusal;
+use engine_spec::types::Snapshot;
 use engine_spec::types::State;
 
 // The coast of the last computed answer, where that was Locked; nothing else is an age. A state out
@@ -16,24 +17,35 @@ pub fn support_age(engine: Engine) -> Age
 {
     if !is_valid_engine(engine) {
         return Age {
-            answer: Answer::StateOutOfRange,
+            refusal: Refusal::StateOutOfRange,
             coast_ms: Maybe::Absent,
         };
     }
     let last = engine.last;
-    let snapshot = last.snapshot;
-    let state = snapshot.state;
-    if last.has_snapshot & is_locked(state) {
-        let diagnostics = snapshot.diagnostics;
+    if last.has_snapshot {
+        let snapshot = last.snapshot;
+        let coast_ms = coast_shown(snapshot);
         return Age {
-            answer: Answer::Computed,
-            coast_ms: Maybe::Is(diagnostics.spectral.coast_ms),
+            refusal: Refusal::None,
+            coast_ms,
         };
     }
     Age {
-        answer: Answer::Computed,
+        refusal: Refusal::None,
         coast_ms: Maybe::Absent,
     }
+}
+
+// The coast of a snapshot that is Locked.
+fn coast_shown(s: Snapshot) -> Maybe
+    ensures { λ r. ⌜ r ≡ coastShown s ⌝ }
+{
+    let state = s.state;
+    if is_locked(state) {
+        let diagnostics = s.diagnostics;
+        return Maybe::Is(diagnostics.spectral.coast_ms);
+    }
+    Maybe::Absent
 }
 
 // A track is shown that ends or follows a chain.

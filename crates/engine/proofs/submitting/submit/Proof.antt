@@ -3,33 +3,25 @@ use mathlib.Core.Bool.{true≢false}
 use mathlib.Core.Path.{refl, sym, _∙_}
 use borrow.Author.Needs.{needs}
 use lib.ListN.{length}
-use Rattle.engine_spec.specs.Refusals.{Submission, submissionRefusal}
 use Rattle.matcher_spec.specs.Index.{lent}
 use Rattle.engine_spec.specs.Lent.{window, handed}
-use Rattle.engine.proofs.RefusalLaw.{refusal-tested}
-use Rattle.engine.proofs.RoomLaw.{room}
+use Rattle.engine_spec.specs.Windows.{Submission}
+use Rattle.engine_spec.specs.Refusals.{submissionRefusal}
+use Rattle.engine_refusals.proofs.OrderLaws.{refusal-tested}
+use Rattle.engine.proofs.RoomLaws.{room}
 use Rattle.engine.proofs.AnswerLaws.{submit-refused, submit-answered, answered-unrefused}
 use Rattle.engine.proofs.submitting.submit.Statement.{statement}
 use Rattle.engine.proofs.submitting.submit.Tie as tie
 
 returns : tie.Need-returns
-returns c =
-    let asked = c .before .before .before in
-    let a = asked .before .before .before .before .before .before .before .before .before .before .args in
-    let x = lent (a .fine .now) (a .coarse .now) (a .fine-energy .now) (a .coarse-energy .now) in
-    let w = window (a .bands) (a .times .now) (a .energies .now) (a .values .now) in
-    let i : Submission = handed x w (a .clock) (length (a .work32 .now)) (length (a .work64 .now)) in
-    let tested = refusal-tested (submissionRefusal (a .engine) i) (asked .submission-refusal .ensures) (c .before .before .is-refusal .ensures) (c .before .if1 .taken) in
-    (submit-refused (a .engine) i (c .refused .ensures) (asked .submission-refusal .ensures) tested, ((λ h. (refl, refl)), ((refl, refl), (λ k u. asked .before .before .before .shared-slice-known7 .given k))))
+returns c = (
+  submit-refused _ _ (c .refused .ensures) (c .before .before .before .submission-refusal .ensures)
+      (refusal-tested _ (c .before .before .before .submission-refusal .ensures) (c .before .before .is-refusal .ensures) (c .before .if1 .taken)),
+  ((λ h. (refl, refl)), ((refl, refl), (λ k u. c .before .before .before .before .before .before .shared-slice-known7 .given k))),
+)
 
 answered-requires : tie.Need-answered-requires
-answered-requires c κs =
-    let asked = c .before .before .before .before in
-    let a = asked .before .before .before .before .before .before .before .before .before .before .args in
-    let x = lent (a .fine .now) (a .coarse .now) (a .fine-energy .now) (a .coarse-energy .now) in
-    let w = window (a .bands) (a .times .now) (a .energies .now) (a .values .now) in
-    let i : Submission = handed x w (a .clock) (length (a .work32 .now)) (length (a .work64 .now)) in
-    room (a .engine) i (refusal-tested (submissionRefusal (a .engine) i) (asked .submission-refusal .ensures) (c .before .before .before .is-refusal .ensures) (c .before .before .if1 .left))
+answered-requires c κs = room _ _ (refusal-tested _ (c .before .before .before .before .submission-refusal .ensures) (c .before .before .before .is-refusal .ensures) (c .before .before .if1 .left))
 
 returns-2 : tie.Need-returns-2
 returns-2 c =

@@ -1,6 +1,6 @@
 -- `engine::support::is_locked` meets its contract. Assumes nothing.
 use borrow.Author.Needs.{needs}
-use Rattle.engine_spec.specs.SupportAge.{isLocked}
+use Rattle.engine_spec.specs.Cases.{isLocked}
 use Rattle.engine.proofs.support.is_locked.Statement.{statement}
 use Rattle.engine.proofs.support.is_locked.Tie as tie
 

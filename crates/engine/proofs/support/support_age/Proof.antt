@@ -11,11 +11,11 @@ returns c = simp (← (c .before .is-valid-engine .ensures), not-true (c .before
 
 returns-2 : tie.Need-returns-2
 unfolding supportAge
-returns-2 c = simp (← (c .before .before .before .before .before .before .before .is-valid-engine .ensures), not-false (c .before .before .before .before .before .before .before .is-valid-engine .result) (c .before .before .before .before .before .before .if1 .left), ← (c .before .before .before .is-locked .ensures), c .before .if2 .taken)
+returns-2 c = simp (← (c .before .before .before .before .before .is-valid-engine .ensures), not-false (c .before .before .before .before .before .is-valid-engine .result) (c .before .before .before .before .if1 .left), c .before .before .if2 .taken, ← (c .coast-shown .ensures))
 
 returns-3 : tie.Need-returns-3
 unfolding supportAge
-returns-3 c = simp (← (c .before .before .before .before .before .before .is-valid-engine .ensures), not-false (c .before .before .before .before .before .before .is-valid-engine .result) (c .before .before .before .before .before .if1 .left), ← (c .before .before .is-locked .ensures), c .if2 .left)
+returns-3 c = simp (← (c .before .before .before .is-valid-engine .ensures), not-false (c .before .before .before .is-valid-engine .result) (c .before .before .if1 .left), c .if2 .left)
 
 pub support-age-spec : {M : Type 1} → statement M
 support-age-spec =
