@@ -7,7 +7,7 @@ use lib.Dec.{ltb}
 use lib.ListN.{drop}
 use lib.Ieee.{Float}
 use Rattle.matcher_spec.specs.Index.{Index}
-use Rattle.engine_spec.specs.Refusals.{refuses}
+use Rattle.engine_spec.specs.Refusals.{numberOf, refuses}
 use Rattle.engine_spec.specs.declared.types.Configuration.{Configuration}
 use Rattle.engine_spec.specs.declared.types.OpenResult.{OpenResult}
 use Rattle.engine_spec.specs.declared.types.SubmitResult.{SubmitResult}
@@ -61,7 +61,7 @@ foundCode maybe.Absent = noAge
 foundCode (maybe.Is x) = 0
 
 unfoldable pub ageCode : ℕ → Age → ℕ
-ageCode words a = cond (ltb words stateWords) wordsTooShort (cond (refuses (a .answer)) (codeOf (a .answer)) (foundCode (a .«coast_ms»)))
+ageCode words a = cond (ltb words stateWords) wordsTooShort (cond (refuses (a .refusal)) (numberOf (a .refusal)) (foundCode (a .«coast_ms»)))
 
 unfoldable pub found : Maybe → Float → Float
 found maybe.Absent old = old
@@ -69,4 +69,4 @@ found (maybe.Is x) old = x
 
 -- What the lent number is after it: as it was where there is no age.
 unfoldable pub ageAfter : ℕ → Age → Float → Float
-ageAfter words a old = cond (ltb words stateWords) old (cond (refuses (a .answer)) old (found (a .«coast_ms») old))
+ageAfter words a old = cond (ltb words stateWords) old (cond (refuses (a .refusal)) old (found (a .«coast_ms») old))

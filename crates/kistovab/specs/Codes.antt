@@ -2,6 +2,7 @@
 use Prim.Native.Nat.{ℕ}
 use mathlib.Core.Bool.{Bool, _||_}
 use lib.Dec.{eqb}
+use Rattle.engine_spec.specs.Refusals.{numberOf}
 use Rattle.engine_spec.specs.declared.types.Answer.{Answer}
 use Rattle.engine_spec.specs.declared.types.Answer.the-variants as answer
 
@@ -17,24 +18,12 @@ noAge = 101
 abbrev pub wordsTooShort : ℕ
 wordsTooShort = 255
 
--- A refusal's code is its number (engine_spec, `numberOf`).
+-- A refusal's code is its number.
 unfoldable pub codeOf : Answer → ℕ
 codeOf answer.Opened = 0
 codeOf answer.Computed = 0
 codeOf answer.Reread = rereadCode
-codeOf answer.InvalidConfiguration = 1
-codeOf answer.HopOutOfRange = 2
-codeOf answer.ReferenceTooLarge = 3
-codeOf answer.ReferenceMiscounted = 4
-codeOf answer.ReferenceTimeTooFar = 5
-codeOf answer.IndexTooShort = 6
-codeOf answer.StateOutOfRange = 7
-codeOf answer.ClockNotFinite = 8
-codeOf answer.NoFrames = 9
-codeOf answer.WindowTooLarge = 10
-codeOf answer.WindowInvalid = 11
-codeOf answer.WindowTimeOutOfRange = 12
-codeOf answer.WorkTooShort = 13
+codeOf (answer.Refused r) = numberOf r
 
 -- Computed or a re-reading: a snapshot is answered.
 abbrev pub answers : ℕ → Bool

@@ -22,6 +22,8 @@ use engine::opening::open;
 use engine::submitting::submit;
 use engine::support::support_age;
 use engine_refusals::refusals::is_refusal;
+use engine_refusals::refusals::is_refused;
+use engine_refusals::refusals::number_of;
 use engine_spec::types::ClockMs;
 use engine_spec::types::Configuration;
 use engine_spec::types::Maybe;
@@ -75,7 +77,7 @@ pub extern "C" fn kistovab_open(
         coarse_energy,
     );
     let answer = opened.answer;
-    if is_refusal(answer) {
+    if is_refused(answer) {
         return code_of(answer);
     }
     let engine = opened.engine;
@@ -127,7 +129,7 @@ pub extern "C" fn kistovab_submit(
         work64,
     );
     let verdict = submitted.answer;
-    if is_refusal(verdict) {
+    if is_refused(verdict) {
         return code_of(verdict);
     }
     let shown = submitted.snapshot;
@@ -151,9 +153,9 @@ pub extern "C" fn kistovab_support_age(state: &[u64], age: &mut f64) -> u32
     }
     let engine = read_state(state);
     let found = support_age(engine);
-    let answer = found.answer;
-    if is_refusal(answer) {
-        return code_of(answer);
+    let refusal = found.refusal;
+    if is_refusal(refusal) {
+        return number_of(refusal);
     }
     let coast = found.coast_ms;
     match coast {

@@ -85,7 +85,7 @@ pub extern "C" fn kistovab_work32_length(frames: usize, bands: usize) -> usize
     if bands > BANDS_MOST {
         return 0;
     }
-    2 * bands * frames
+    2 * (bands * frames)
 }
 
 #[no_mangle]
@@ -105,5 +105,5 @@ pub extern "C" fn kistovab_work64_length(
     if reference_frames > FRAMES_MOST {
         return 0;
     }
-    3 * bands * (frames + 1) + reference_frames
+    3 * (bands * (frames + 1)) + reference_frames
 }

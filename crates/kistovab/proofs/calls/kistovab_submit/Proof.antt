@@ -7,9 +7,10 @@ use mathlib.Core.Path.{_≡_, refl, sym, ap, _∙_}
 use borrow.Author.Needs.{needs}
 use Rattle.engine_layout.specs.Layout.{stateIn}
 use Rattle.engine_spec.proofs.Submissions.{clash}
-use Rattle.engine_spec.specs.Refusals.{Submission, refuses}
+use Rattle.engine_spec.specs.Cases.{isRefused}
 use Rattle.matcher_spec.specs.Index.{lent}
 use Rattle.engine_spec.specs.Lent.{handed, window}
+use Rattle.engine_spec.specs.Windows.{Submission}
 use Rattle.kistovab.specs.Codes.{answers}
 use Rattle.kistovab.proofs.CallLaws.{few-words, few-shown, short-submits, submit-code, refused-submits, reread-submits, computed-submits, same, way-made, by-answer, answered}
 use Rattle.kistovab.proofs.calls.kistovab_submit.Statement.{statement}
@@ -33,7 +34,7 @@ returns-3 c =
     let w = way-made i (c .before .before .before .before .before .before .before .before .before .before .read-state .ensures) (c .before .before .before .before .before .before .before .submit .ensures .0) in
     let long = le-ltb n 106 (c .before .before .before .before .before .before .before .before .before .before .before .before .before .if1 .left) in
     let wide = le-ltb k 77 (c .before .before .before .before .before .before .before .before .before .before .before .before .if2 .left) in
-    let refusing : refuses (s .answer) ≡ true = sym (c .before .before .is-refusal .ensures) ∙ c .before .if3 .taken in
+    let refusing : isRefused (s .answer) ≡ true = sym (c .before .before .is-refused .ensures) ∙ c .before .if3 .taken in
     let code = c .code-of .ensures in (
       submit-code n k long wide code e,
       (by-answer code e (refused-submits s (a .state .now) (a .snapshot .now) w refusing), ((λ h. c .before .before .before .before .before .before .before .submit .ensures .1 .0 refusing), c .before .before .before .before .before .before .before .submit .ensures .1 .1 .0)),
@@ -51,7 +52,7 @@ returns-4 c =
     let w = way-made i (c .before .before .before .before .before .before .before .before .before .before .before .before .before .before .before .before .before .before .before .before .before .before .read-state .ensures) (c .before .before .before .before .before .before .before .before .before .before .before .before .before .before .before .before .before .before .before .submit .ensures .0) in
     let long = le-ltb n 106 (c .before .before .before .before .before .before .before .before .before .before .before .before .before .before .before .before .before .before .before .before .before .before .before .before .before .if1 .left) in
     let wide = le-ltb k 77 (c .before .before .before .before .before .before .before .before .before .before .before .before .before .before .before .before .before .before .before .before .before .before .before .before .if2 .left) in
-    let answering : refuses (s .answer) ≡ false = sym (c .before .before .before .before .before .before .before .before .before .before .before .before .before .before .is-refusal .ensures) ∙ c .before .before .before .before .before .before .before .before .before .before .before .before .before .if3 .left in
+    let answering : isRefused (s .answer) ≡ false = sym (c .before .before .before .before .before .before .before .before .before .before .before .before .before .before .is-refused .ensures) ∙ c .before .before .before .before .before .before .before .before .before .before .before .before .before .if3 .left in
     let code = c .code-of2 .ensures in
     let shown : answers (c .code-of2 .result) ≡ true = ap (λ (m : ℕ). answers m) code ∙ answered (stateIn (a .state .now)) s w answering in (
       submit-code n k long wide code e,
@@ -70,7 +71,7 @@ returns-5 c =
     let w = way-made i (c .before .before .before .before .before .before .before .before .before .before .before .before .before .before .before .before .before .read-state .ensures) (c .before .before .before .before .before .before .before .before .before .before .before .before .before .before .submit .ensures .0) in
     let long = le-ltb n 106 (c .before .before .before .before .before .before .before .before .before .before .before .before .before .before .before .before .before .before .before .before .if1 .left) in
     let wide = le-ltb k 77 (c .before .before .before .before .before .before .before .before .before .before .before .before .before .before .before .before .before .before .before .if2 .left) in
-    let answering : refuses (s .answer) ≡ false = sym (c .before .before .before .before .before .before .before .before .before .is-refusal .ensures) ∙ c .before .before .before .before .before .before .before .before .if3 .left in
+    let answering : isRefused (s .answer) ≡ false = sym (c .before .before .before .before .before .before .before .before .before .is-refused .ensures) ∙ c .before .before .before .before .before .before .before .before .if3 .left in
     let code = c .code-of3 .ensures in
     let shown : answers (c .code-of3 .result) ≡ true = ap (λ (m : ℕ). answers m) code ∙ answered (stateIn (a .state .now)) s w answering in (
       submit-code n k long wide code e,

@@ -15,7 +15,7 @@ unfolding ageCode ageAfter
 returns c = (simp (lt-ltb _ _ (c .if1 .taken)), simp (lt-ltb _ _ (c .if1 .taken)))
 
 returns-2 : tie.Need-returns-2
-returns-2 c = age-refused (length (c .before .before .before .before .before .before .before .args .state .now)) (c .before .before .before .before .before .before .before .args .age .now) (le-ltb _ _ (c .before .before .before .before .before .if1 .left)) (c .before .before .before .support-age .ensures ∙ ap supportAge (c .before .before .before .before .read-state .ensures)) (sym (c .before .before .is-refusal .ensures) ∙ c .before .if2 .taken) (c .code-of .ensures)
+returns-2 c = age-refused (length (c .before .before .before .before .before .before .before .args .state .now)) (c .before .before .before .before .before .before .before .args .age .now) (le-ltb _ _ (c .before .before .before .before .before .if1 .left)) (c .before .before .before .support-age .ensures ∙ ap supportAge (c .before .before .before .before .read-state .ensures)) (sym (c .before .before .is-refusal .ensures) ∙ c .before .if2 .taken) (c .number-of .ensures)
 
 returns-3 : tie.Need-returns-3
 unfolding foundCode found

@@ -1,6 +1,6 @@
 -- `kistovab::codes::is_computed` meets its contract. Assumes nothing.
 use borrow.Author.Needs.{needs}
-use Rattle.engine_spec.specs.Guarantee.{isComputed}
+use Rattle.engine_spec.specs.Cases.{isComputed}
 use Rattle.kistovab.proofs.codes.is_computed.Statement.{statement}
 use Rattle.kistovab.proofs.codes.is_computed.Tie as tie
 
@@ -20,54 +20,6 @@ returns-4 : tie.Need-returns-4
 unfolding isComputed
 returns-4 c = simp (c .enum-told4 .given .1)
 
-returns-5 : tie.Need-returns-5
-unfolding isComputed
-returns-5 c = simp (c .enum-told5 .given .1)
-
-returns-6 : tie.Need-returns-6
-unfolding isComputed
-returns-6 c = simp (c .enum-told6 .given .1)
-
-returns-7 : tie.Need-returns-7
-unfolding isComputed
-returns-7 c = simp (c .enum-told7 .given .1)
-
-returns-8 : tie.Need-returns-8
-unfolding isComputed
-returns-8 c = simp (c .enum-told8 .given .1)
-
-returns-9 : tie.Need-returns-9
-unfolding isComputed
-returns-9 c = simp (c .enum-told9 .given .1)
-
-returns-10 : tie.Need-returns-10
-unfolding isComputed
-returns-10 c = simp (c .enum-told10 .given .1)
-
-returns-11 : tie.Need-returns-11
-unfolding isComputed
-returns-11 c = simp (c .enum-told11 .given .1)
-
-returns-12 : tie.Need-returns-12
-unfolding isComputed
-returns-12 c = simp (c .enum-told12 .given .1)
-
-returns-13 : tie.Need-returns-13
-unfolding isComputed
-returns-13 c = simp (c .enum-told13 .given .1)
-
-returns-14 : tie.Need-returns-14
-unfolding isComputed
-returns-14 c = simp (c .enum-told14 .given .1)
-
-returns-15 : tie.Need-returns-15
-unfolding isComputed
-returns-15 c = simp (c .enum-told15 .given .1)
-
-returns-16 : tie.Need-returns-16
-unfolding isComputed
-returns-16 c = simp (c .enum-told16 .given .1)
-
 pub is-computed-spec : {M : Type 1} → statement M
 is-computed-spec =
     tie.close
@@ -76,31 +28,7 @@ is-computed-spec =
     (λ c. search needs)
     (λ c. search needs)
     (λ c. search needs)
-    (λ c. search needs)
-    (λ c. search needs)
-    (λ c. search needs)
-    (λ c. search needs)
-    (λ c. search needs)
-    (λ c. search needs)
-    (λ c. search needs)
-    (λ c. search needs)
-    (λ c. search needs)
-    (λ c. search needs)
-    (λ c. search needs)
-    (λ c. search needs)
     returns
     returns-2
     returns-3
-    returns-4
-    returns-5
-    returns-6
-    returns-7
-    returns-8
-    returns-9
-    returns-10
-    returns-11
-    returns-12
-    returns-13
-    returns-14
-    returns-15
-    returns-16)
+    returns-4)

@@ -1,6 +1,6 @@
 -- `kistovab::sizes::kistovab_work64_length` meets its contract. Assumes nothing.
 use borrow.Author.Tests.{le-leb, lt-leb}
-use Prim.Native.Nat.{_+_, _*_}
+use Prim.Native.Nat.{_+_}
 use native.Mathlib.Omega.{arith}
 use borrow.Author.Needs.{needs}
 use Rattle.kistovab.specs.Sizes.{work64Length}
@@ -21,16 +21,22 @@ returns-3 : tie.Need-returns-3
 unfolding work64Length
 returns-3 c = simp (le-leb _ _ (c .before .before .if1 .left), le-leb _ _ (c .before .if2 .left), lt-leb _ _ (c .if3 .taken))
 
+mul-result : tie.Need-mul-result
+mul-result c =
+    let a = c .before .before .before .args in
+    let h = few (a .bands) bandsMost (a .frames + 1) (windowMost + 1) (omega arith) (omega arith) in
+    omega arith
+
 mul-result-2 : tie.Need-mul-result-2
 mul-result-2 c =
     let a = c .before .before .before .args in
-    let h = few (3 * a .bands) (3 * bandsMost) (a .frames + 1) (windowMost + 1) (omega arith) (omega arith) in
+    let h = few (a .bands) bandsMost (a .frames + 1) (windowMost + 1) (omega arith) (omega arith) in
     omega arith
 
 add-result-2 : tie.Need-add-result-2
 add-result-2 c =
     let a = c .before .before .before .args in
-    let h = few (3 * a .bands) (3 * bandsMost) (a .frames + 1) (windowMost + 1) (omega arith) (omega arith) in
+    let h = few (a .bands) bandsMost (a .frames + 1) (windowMost + 1) (omega arith) (omega arith) in
     omega arith
 
 returns-4 : tie.Need-returns-4
@@ -45,7 +51,7 @@ kistovab-work64-length-spec =
     returns-2
     returns-3
     (λ c. search needs)
-    (λ c. search needs)
+    mul-result
     mul-result-2
     add-result-2
     returns-4)
