@@ -1,7 +1,7 @@
 -- Refusals in order: what the code's test for one says, and what a window that is not refused is bounded by. Assumes nothing.
 use Prim.Native.Nat.{_≤_}
 use mathlib.Core.Bool.{Bool, true, false, _&&_}
-use mathlib.Core.Path.{_≡_, refl, sym, ap, _∙_}
+use mathlib.Core.Path.{_≡_, sym, ap, _∙_}
 use lib.Dec.{ltb, leb, leb→le}
 use lib.ListN.{length}
 use Rattle.engine_spec.specs.Refusals.{numberOf, refuses, _then_, windowRefusal}

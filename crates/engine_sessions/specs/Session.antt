@@ -6,6 +6,7 @@ use mathlib.Core.Path.{_≡_}
 use lib.ListN.{length, replicate}
 use lib.Ieee.{Float}
 use Rattle.numbers_spec.specs.Arithmetic.{zero⁺}
+use Rattle.matcher_spec.specs.Energy.{reduction}
 use Rattle.matcher_spec.specs.Index.{Index}
 use Rattle.engine_spec.specs.Windows.{Window, Submission, endpointOf}
 use Rattle.matcher_spec.specs.Features.{Features}
@@ -31,9 +32,9 @@ roomFor reference =
     let n = length (reference .times) in
     record {
       fine = replicate (reference .bands * n) zero⁺;
-      coarse = replicate (reference .bands * (n / 4)) zero⁺;
+      coarse = replicate (reference .bands * (n / reduction)) zero⁺;
       fineEnergy = replicate (reference .bands * (n + 1)) zero⁺;
-      coarseEnergy = replicate (reference .bands * (n / 4 + 1)) zero⁺;
+      coarseEnergy = replicate (reference .bands * (n / reduction + 1)) zero⁺;
     }
 
 abbrev pub noIndex : Index

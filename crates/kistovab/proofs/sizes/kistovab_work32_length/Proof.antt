@@ -1,7 +1,6 @@
 -- `kistovab::sizes::kistovab_work32_length` meets its contract. Assumes nothing.
 use borrow.Author.Tests.{le-leb, lt-leb}
 use native.Mathlib.Omega.{arith}
-use borrow.Author.Needs.{needs}
 use Rattle.kistovab.specs.Sizes.{work32Length}
 use Rattle.kistovab.proofs.SizeLaws.{few}
 use Rattle.kistovab.proofs.sizes.kistovab_work32_length.Statement.{statement}
