@@ -1,0 +1,8 @@
+use sonalign::{engine, types};
+
+#[path = "../program.rs"]
+mod program;
+
+fn main() {
+    program::run();
+}
