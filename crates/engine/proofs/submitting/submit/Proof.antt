@@ -8,7 +8,7 @@ use Rattle.engine_spec.specs.Lent.{window, handed}
 use Rattle.engine_spec.specs.Windows.{Submission}
 use Rattle.engine_spec.specs.Refusals.{submissionRefusal}
 use Rattle.engine_refusals.proofs.OrderLaws.{refusal-tested}
-use Rattle.engine.proofs.RoomLaws.{room}
+use Rattle.engine_opening.proofs.RoomLaws.{room}
 use Rattle.engine.proofs.AnswerLaws.{submit-refused, submit-answered, answered-unrefused}
 use Rattle.engine.proofs.submitting.submit.Statement.{statement}
 use Rattle.engine.proofs.submitting.submit.Tie as tie

@@ -1,14 +1,14 @@
--- `engine::opening::open` meets its contract: refused, or opened, with an index or without. Assumes nothing.
+-- `engine_opening::opening::open` meets its contract: refused, or opened, with an index or without. Assumes nothing.
 use borrow.Author.Needs.{needs}
 use Rattle.matcher_spec.specs.Features.{features}
 use Rattle.matcher_spec.specs.Index.{lent}
 use Rattle.engine_spec.specs.Refusals.{openingRefusal}
 use Rattle.engine_spec.proofs.Contract.{guaranteed}
 use Rattle.engine_refusals.proofs.OrderLaws.{refusal-tested}
-use Rattle.engine.proofs.RoomLaws.{open-room}
-use Rattle.engine.proofs.OpenLaws.{opening-refused, opening-answered, index-kept, index-filled, accepted-frames}
-use Rattle.engine.proofs.opening.open.Statement.{statement}
-use Rattle.engine.proofs.opening.open.Tie as tie
+use Rattle.engine_opening.proofs.RoomLaws.{open-room}
+use Rattle.engine_opening.proofs.OpenLaws.{opening-refused, opening-answered, index-kept, index-filled, accepted-frames}
+use Rattle.engine_opening.proofs.opening.open.Statement.{statement}
+use Rattle.engine_opening.proofs.opening.open.Tie as tie
 
 returns : tie.Need-returns
 returns c =

@@ -1,7 +1,7 @@
--- `engine::opening::opened_settings` meets its contract. Assumes nothing.
+-- `engine_opening::opening::opened_settings` meets its contract. Assumes nothing.
 use borrow.Author.Needs.{needs}
-use Rattle.engine.proofs.opening.opened_settings.Statement.{statement}
-use Rattle.engine.proofs.opening.opened_settings.Tie as tie
+use Rattle.engine_opening.proofs.opening.opened_settings.Statement.{statement}
+use Rattle.engine_opening.proofs.opening.opened_settings.Tie as tie
 
 with-index-requires : tie.Need-with-index-requires
 with-index-requires c κs = (c .before .before .pre .0 (c .if1 .taken), (c .before .before .pre .1 .0, c .before .before .pre .1 .1))
