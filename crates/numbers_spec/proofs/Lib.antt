@@ -15,6 +15,7 @@ pub mod Sums
 pub mod Products
 pub mod Within
 pub mod Narrowing
+pub mod BySum
 pub mod ExactValues
 pub mod Multiples
 pub mod Nearest
