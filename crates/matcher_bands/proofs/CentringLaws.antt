@@ -1,6 +1,6 @@
 -- The laws that the functions of src/centring.rt cite. Assumes nothing.
 use mathlib.Core.Path.{_≡_, refl, sym, subst, ap, _∙_}
-use mathlib.Core.List.{List, _++_}
+use mathlib.Core.List.{List, _++_, append-assoc}
 use Prim.Native.Nat.{ℕ, _+_, _-_, _*_, _<_, _≤_, min}
 use native.Mathlib.Nat.{zero-mul}
 use native.Mathlib.Numerals.{add-one}
@@ -9,12 +9,13 @@ use lib.Ieee.{Float, nan, binary32, sub}
 use lib.ListN.{length, getD, take, drop, length-take, length-drop}
 use lib.Seq.{length-take-le, take-at, drop-at, take-append-le, take-append-add, drop-append-le, drop-append-add, getD-append-add, getD-take, getD-drop, drop-drop, ext-getD}
 use borrow.Rule.Slice.PartMut.{putMid, postOf, same-len-mid, mid-len, take-put, drop-put}
-use Rattle.numbers_spec.specs.Rows.{tabulate, rows, row, logsOf}
+use Rattle.numbers_spec.specs.Rows.{tabulate, rows, row, narrowedOf, logsOf}
 use Rattle.matcher_spec.specs.Centring.{sumOf, meanAround, centredAt, centred}
-use Rattle.matcher_bands.specs.Centring.{prefixSums, lastOr}
+use Rattle.matcher_bands.specs.Centring.{prefixSums, lastOr, wideMean}
 use Rattle.numbers_spec.specs.Arithmetic.{_⊕_, _⊖_, _⊗_, _⊘_, real}
 use Rattle.numbers_spec.specs.Narrow.{nearestF32}
-use Rattle.numbers_spec.proofs.RowLaws.{length-logs, length-tabulate, getD-tabulate, Filled, next-row}
+use Rattle.numbers_spec.proofs.RowLaws.{length-logs, length-narrowed, length-tabulate, getD-tabulate, narrowed-at, tabulate-ext, whole-row, Filled, Filling, filled-length, next-row}
+use Rattle.numbers_spec.proofs.PartLaws.{rest, row-at, row-length, tabulate-add}
 
 module _ {A : Type 0} (f : ℕ → A) where
   -- what lies behind the filled part is still as it was
@@ -24,6 +25,20 @@ module _ {A : Type 0} (f : ℕ → A) where
       ∙ ap (λ (m : ℕ). getD (tabulate f n ++ drop n d) (m + k) z) (sym (length-tabulate f n))
       ∙ getD-append-add (tabulate f n) (drop n d) k z
       ∙ getD-drop n d k z
+
+  -- so is the list from there on
+  filled-rest : (d : List A) (n : ℕ) {row : List A} → Filled f d n row → take (length row - n) (drop n row) ≡ drop n d
+  filled-rest d n {row} p = rest row n ∙ ap (drop n) p ∙ drop-at (tabulate f n) (drop n d) n (length-tabulate f n)
+
+  -- it was lent, and came back with m elements more filled
+  filled-block : (d : List A) (n m : ℕ) {row part : List A} → Filled f d n row → part ≡ tabulate (λ (k : ℕ). f (n + k)) m ++ drop m (drop n d)
+      → Filled f d (n + m) (putMid n (length row - n) row part)
+  filled-block d n m {row} {part} p q =
+      let front = ap (take n) p ∙ take-at (tabulate f n) (drop n d) n (length-tabulate f n) in
+      let back = whole-row part (drop n row) (length row - n) (simp length-drop (omega arith)) ∙ q in
+      (λ i. front i ++ back i)
+      ∙ sym (append-assoc (tabulate f n) (tabulate (λ (k : ℕ). f (n + k)) m) (drop m (drop n d)))
+      ∙ (λ i. sym (tabulate-add f n m) i ++ drop-drop m n d i)
 
   -- a part of a list by a rule
   pub tabulate-part : (z : A) (n from count : ℕ) → from + count ≤ n → take count (drop from (tabulate f n)) ≡ tabulate (λ (i : ℕ). f (from + i)) count
@@ -38,6 +53,11 @@ module _ {A : Type 0} (f : ℕ → A) where
           ∙ getD-tabulate f n (from + i) z (omega arith)
           ∙ sym (getD-tabulate (λ (k : ℕ). f (from + k)) count i z w)
 
+-- the mean as an f32
+narrowed-mean : (sums : List Float) (first last : Float) (r i : ℕ) → nearestF32 (wideMean sums first last r i) ≡ meanAround (λ (k : ℕ). getD sums k nan) (length sums - 1) first last r i
+unfolding wideMean meanAround
+narrowed-mean sums first last r i = refl
+
 -- The mean around i asks for no sums but those of the first n values.
 mean-same : (s t : ℕ → Float) (n : ℕ) (first last : Float) (r i : ℕ) → i ≤ n → ((k : ℕ) → k ≤ n → s k ≡ t k)
     → meanAround s n first last r i ≡ meanAround t n first last r i
@@ -46,17 +66,54 @@ mean-same s t n first last r i h same = rw (same (min n (i + r + 1)) (omega arit
 
 -- the centred value, by the prefix sums
 centred-by : (v sums : List Float) (r i : ℕ) → i < length v → sums ≡ prefixSums v
-    → sub binary32 (getD v i nan) (meanAround (λ (k : ℕ). getD sums k nan) (length sums - 1) (getD v 0 nan) (getD v (length v - 1) nan) r i) ≡ centredAt r v i
+    → sub binary32 (getD v i nan) (nearestF32 (wideMean sums (getD v 0 nan) (getD v (length v - 1) nan) r i)) ≡ centredAt r v i
 unfolding centredAt
 centred-by v sums r i h e =
     let long : length sums - 1 ≡ length v = omega (arith, ap length e, length-tabulate (sumOf v) (length v + 1)) in
     let same : (k : ℕ) → k ≤ length v → getD sums k nan ≡ sumOf v k = λ k w. rw e (getD-tabulate (sumOf v) (length v + 1) k nan (omega arith)) in
-    rw long (ap (sub binary32 (getD v i nan)) (mean-same (λ (k : ℕ). getD sums k nan) (sumOf v) (length v) (getD v 0 nan) (getD v (length v - 1) nan) r i (omega arith) same))
+    ap (sub binary32 (getD v i nan)) (narrowed-mean sums (getD v 0 nan) (getD v (length v - 1) nan) r i
+    ∙ rw long (mean-same (λ (k : ℕ). getD sums k nan) (sumOf v) (length v) (getD v 0 nan) (getD v (length v - 1) nan) r i (omega arith) same))
 
--- by a value and a mean that stand elsewhere
-pub centred-value : (v sums : List Float) (r i : ℕ) {x m : Float} → i < length v → sums ≡ prefixSums v → x ≡ getD v i nan
-    → m ≡ meanAround (λ (k : ℕ). getD sums k nan) (length sums - 1) (getD v 0 nan) (getD v (length v - 1) nan) r i → sub binary32 x m ≡ centredAt r v i
-centred-value v sums r i h e p q = (λ k. sub binary32 (p k) (q k)) ∙ centred-by v sums r i h e
+-- the means, by the rule w, were worked out in f64, narrowed, and taken off
+pub taken-off : (w : ℕ → Float) (n from : ℕ) (row : List Float) {wide means out : List Float} → wide ≡ tabulate w n → means ≡ narrowedOf wide
+    → out ≡ tabulate (λ (k : ℕ). sub binary32 (getD row (from + k) nan) (getD means k nan)) (length means) ++ drop (length means) row
+    → out ≡ tabulate (λ (k : ℕ). sub binary32 (getD row (from + k) nan) (nearestF32 (w k))) n ++ drop n row
+taken-off w n from row {wide} {means} p q e =
+    let long : length means ≡ n = ap length q ∙ length-narrowed wide ∙ row-length w n p in
+    let mean : (k : ℕ) → k < n → getD means k nan ≡ nearestF32 (w k) = λ k h. ap (λ (l : List Float). getD l k nan) q ∙ narrowed-at wide k ∙ ap nearestF32 (row-at w n k nan p h) in
+    e
+    ∙ ap (λ (m : ℕ). tabulate (λ (k : ℕ). sub binary32 (getD row (from + k) nan) (getD means k nan)) m ++ drop m row) long
+    ∙ ap (λ (l : List Float). l ++ drop n row) (tabulate-ext _ _ n (λ k h. ap (sub binary32 (getD row (from + k) nan)) (mean k h)))
+
+-- ---- a row's frames from `from` on, centred at its front
+module _ (r from : ℕ) (v : List Float) where
+  abbrev pub centredFrom : ℕ → Float
+  centredFrom i = centredAt r v (from + i)
+
+  -- the row from `at` on, less the means of n frames, by the prefix sums
+  abbrev blockOf : List Float → ℕ → ℕ → List Float → List Float
+  blockOf sums at n row =
+      tabulate (λ (k : ℕ). sub binary32 (getD row (from + k) nan) (nearestF32 (wideMean sums (getD v 0 nan) (getD v (length v - 1) nan) r (from + at + k)))) n ++ drop n row
+
+  -- it was lent, and came back so
+  pub centred-block : (sums : List Float) (at n : ℕ) {m : ℕ} {row part : List Float} → sums ≡ prefixSums v → from + (at + n) ≤ length v → m ≡ n → Filling centredFrom v at row
+      → part ≡ blockOf sums at m (take (length row - at) (drop at row)) → Filling centredFrom v (at + n) (putMid at (length row - at) row part)
+  centred-block sums at n {m} {row} {part} e h long p q =
+      record { within = omega arith; size = filled-length centredFrom v (at + n) front (omega arith); front = front }
+    where
+      value : (k : ℕ) → k < n → sub binary32 (getD (drop at v) (from + k) nan) (nearestF32 (wideMean sums (getD v 0 nan) (getD v (length v - 1) nan) r (from + at + k))) ≡ centredFrom (at + k)
+      value k w =
+          let i : ℕ = from + (at + k) in
+          let here : at + (from + k) ≡ i = omega arith in
+          let there : from + at + k ≡ i = omega arith in
+          (λ j. sub binary32 ((getD-drop at v (from + k) nan ∙ ap (λ (l : ℕ). getD v l nan) here) j) (nearestF32 (wideMean sums (getD v 0 nan) (getD v (length v - 1) nan) r (there j))))
+          ∙ centred-by v sums r i (omega arith) e
+
+      came : part ≡ tabulate (λ (k : ℕ). centredFrom (at + k)) n ++ drop n (drop at v)
+      came = q ∙ (λ j. blockOf sums at (long j) (filled-rest centredFrom v at (p .front) j)) ∙ ap (λ (l : List Float). l ++ drop n (drop at v)) (tabulate-ext _ _ n value)
+
+      front : Filled centredFrom v (at + n) (putMid at (length row - at) row part)
+      front = filled-block centredFrom v at n (p .front) came
 
 -- a part of n elements has n
 pub part-length : {A : Type 0} (at n : ℕ) (l : List A) → at + n ≤ length l → length (take (at + n - at) (drop at l)) ≡ n
@@ -199,11 +256,11 @@ module _ (frames radius from count : ℕ) (v d s : List Float) where
       more = rw e (fronted-more bandOf leftOf count (frames - count) d b (at + frames) out part (p .bands) (omega arith) w (long ∙ e) (done .0) (done .1))
 
 -- ---- the mean over frames that lie within the row
-pub inside : (sums : ℕ → Float) (n : ℕ) (first last : Float) (r i : ℕ) → r ≤ i → i + r + 1 ≤ n
-    → meanAround sums n first last r i ≡ nearestF32 (((sums (i + r + 1) ⊖ sums (i - r)) ⊕ real 0 ⊗ first ⊕ real 0 ⊗ last) ⊘ real (2 * r + 1))
-unfolding meanAround
-inside sums n first last r i h k =
-    let m : min n (i + r + 1) ≡ i + r + 1 = omega (arith, k) in
+pub inside : (sums : List Float) (first last : Float) (r i : ℕ) → r ≤ i → i + r + 1 < length sums
+    → wideMean sums first last r i ≡ ((getD sums (i + r + 1) nan ⊖ getD sums (i - r) nan) ⊕ real 0 ⊗ first ⊕ real 0 ⊗ last) ⊘ real (2 * r + 1)
+unfolding wideMean
+inside sums first last r i h k =
+    let m : min (length sums - 1) (i + r + 1) ≡ i + r + 1 = omega (arith, k) in
     let b : r - i ≡ 0 = omega (arith, h) in
-    let a : i + r + 1 - n ≡ 0 = omega (arith, k) in
+    let a : i + r + 1 - (length sums - 1) ≡ 0 = omega (arith, k) in
     rw (m, b, a) refl

@@ -1,12 +1,13 @@
 // Logs of a band, less their mean over the frames around each. Logs and sums stand in the buffers
 // that are filled in the end, so that nothing else is needed.
 ghost use Prim.Native.Nat.{ℕ, _+_, _-_, _*_, _<_, _≤_};
-ghost use lib.Ieee.{nan};
+ghost use lib.Ieee.{binary32, nan, sub};
 ghost use lib.ListN.{drop, getD, length, take};
 ghost use mathlib.Core.List.{_++_};
 ghost use mathlib.Core.Path.{_≡_};
-ghost use Rattle.matcher_bands.specs.Centring.{lastOr, prefixSums};
-ghost use Rattle.matcher_spec.specs.Centring.{centred, centredAt, contextFrames, meanAround, radius, radiusMost};
+ghost use Rattle.matcher_bands.specs.Centring.{lastOr, prefixSums, wideMean};
+ghost use Rattle.matcher_spec.specs.Centring.{centred, centredAt, contextFrames, radius, radiusMost};
+ghost use Rattle.numbers_spec.specs.Narrow.{nearestF32};
 ghost use Rattle.numbers_spec.specs.Rows.{logsOf, row, rows, tabulate};
 use matcher_spec::constants::CONTEXT_MS;
 use numbers::counts::min;
@@ -14,10 +15,11 @@ use numbers::counts::saturating_sub;
 use numbers::float::at_least;
 use numbers::float::real;
 use numbers::float::widen;
-use numbers::narrow::narrow;
 use numbers::whole::count;
 use numbers::whole::round;
+use numbers_rows::ln_1p_row::BLOCK;
 use numbers_rows::ln_1p_row::ln_1p_row;
+use numbers_rows::narrow_row::narrow_row;
 
 // 250 ms in frames, rounded: 0 at a hop above 500.
 pub fn context_frames(hop: f64) -> f64
@@ -49,37 +51,23 @@ fn fill_sums(sums: &mut [f64], values: &[f32])
     sums[n] = sum;
 }
 
-// The mean over the frames around i, by the prefix sums. `first` and `last` are the values at the
-// ends, which stand in for what lies past them.
-fn mean_around(sums: &[f64], first: f32, last: f32, radius: usize, i: usize) -> f32
-    requires { ⌜ i + 1 < length (now sums) ⌝ ∗ ⌜ radius ≤ radiusMost ⌝ }
-    ensures { λ r. ⌜ r ≡ meanAround (λ (k : ℕ). getD (now (sums .entry)) k nan) (length (now (sums .entry)) - 1) first last radius i ⌝ }
-{
-    let past = i + radius + 1;
-    if radius <= i {
-        if past < sums.len() {
-            return mean_inside(sums, first, last, radius, i);
-        }
-    }
-    mean_at_end(sums, first, last, radius, i)
-}
-
-// The mean over the frames around i where they lie within the row, as nearly all do. No value is
-// repeated then, and what that adds is the same for each i.
-fn mean_inside(sums: &[f64], first: f32, last: f32, radius: usize, i: usize) -> f32
+// The mean over the frames around i, by the prefix sums, where they lie within the row, as nearly
+// all do. `first` and `last` are the values at the ends, which stand in for what lies past them. No
+// value is repeated here, and what that adds is the same for each i.
+fn mean_inside(sums: &[f64], first: f32, last: f32, radius: usize, i: usize) -> f64
     requires { ⌜ radius ≤ i ⌝ ∗ ⌜ i + radius + 1 < length (now sums) ⌝ ∗ ⌜ radius ≤ radiusMost ⌝ }
-    ensures { λ r. ⌜ r ≡ meanAround (λ (k : ℕ). getD (now (sums .entry)) k nan) (length (now (sums .entry)) - 1) first last radius i ⌝ }
+    ensures { λ r. ⌜ r ≡ wideMean (now (sums .entry)) first last radius i ⌝ }
 {
     let sum = sums[i + radius + 1] - sums[i - radius];
     let before = real(0) * widen(first);
     let after = real(0) * widen(last);
-    narrow((sum + before + after) / real(2 * radius + 1))
+    (sum + before + after) / real(2 * radius + 1)
 }
 
 // The mean over the frames around i where they may reach past an end.
-fn mean_at_end(sums: &[f64], first: f32, last: f32, radius: usize, i: usize) -> f32
+fn mean_at_end(sums: &[f64], first: f32, last: f32, radius: usize, i: usize) -> f64
     requires { ⌜ i + 1 < length (now sums) ⌝ ∗ ⌜ radius ≤ radiusMost ⌝ }
-    ensures { λ r. ⌜ r ≡ meanAround (λ (k : ℕ). getD (now (sums .entry)) k nan) (length (now (sums .entry)) - 1) first last radius i ⌝ }
+    ensures { λ r. ⌜ r ≡ wideMean (now (sums .entry)) first last radius i ⌝ }
 {
     let n = sums.len() - 1;
     let past = i + radius + 1;
@@ -87,7 +75,81 @@ fn mean_at_end(sums: &[f64], first: f32, last: f32, radius: usize, i: usize) -> 
     let low = saturating_sub(i, radius);
     let before = real(saturating_sub(radius, i)) * widen(first);
     let after = real(saturating_sub(past, n)) * widen(last);
-    narrow((sums[high] - sums[low] + before + after) / real(2 * radius + 1))
+    (sums[high] - sums[low] + before + after) / real(2 * radius + 1)
+}
+
+// Fills the row with the means over the frames around i, i + 1, .. Where no frame lies past an end
+// the loop has no branch, so that it becomes vector code.
+fn fill_means(wide: &mut [f64], sums: &[f64], first: f32, last: f32, radius: usize, i: usize)
+    requires { ⌜ i + length (now wide) < length (now sums) ⌝ ∗ ⌜ radius ≤ radiusMost ⌝ }
+    ensures { λ _. ⌜ now (wide .exit) ≡ tabulate (λ (k : ℕ). wideMean (now (sums .entry)) first last radius (i + k)) (length (now (wide .entry))) ⌝ }
+{
+    if radius <= i {
+        if i + wide.len() + radius < sums.len() {
+            means_inside(wide, sums, first, last, radius, i);
+            return;
+        }
+    }
+    means_at_end(wide, sums, first, last, radius, i);
+}
+
+// The same where all these frames lie within the row.
+fn means_inside(wide: &mut [f64], sums: &[f64], first: f32, last: f32, radius: usize, i: usize)
+    requires { ⌜ radius ≤ i ⌝ ∗ ⌜ i + length (now wide) + radius < length (now sums) ⌝ ∗ ⌜ radius ≤ radiusMost ⌝ }
+    ensures { λ _. ⌜ now (wide .exit) ≡ tabulate (λ (k : ℕ). wideMean (now (sums .entry)) first last radius (i + k)) (length (now (wide .entry))) ⌝ }
+{
+    let mut k = 0usize;
+    while k < wide.len() {
+        wide[k] = mean_inside(sums, first, last, radius, i + k);
+        k += 1;
+    }
+}
+
+// The same where they may reach past an end.
+fn means_at_end(wide: &mut [f64], sums: &[f64], first: f32, last: f32, radius: usize, i: usize)
+    requires { ⌜ i + length (now wide) < length (now sums) ⌝ ∗ ⌜ radius ≤ radiusMost ⌝ }
+    ensures { λ _. ⌜ now (wide .exit) ≡ tabulate (λ (k : ℕ). wideMean (now (sums .entry)) first last radius (i + k)) (length (now (wide .entry))) ⌝ }
+{
+    let mut k = 0usize;
+    while k < wide.len() {
+        wide[k] = mean_at_end(sums, first, last, radius, i + k);
+        k += 1;
+    }
+}
+
+// Replaces values at the row's front, as many as there are means: place k gets the value `from`
+// places later, less mean k.
+fn take_off(row: &mut [f32], means: &[f32], from: usize)
+    requires { ⌜ from + length (now means) ≤ length (now row) ⌝ }
+    ensures { λ _. ⌜ now (row .exit) ≡ tabulate (λ (k : ℕ). sub binary32 (getD (now (row .entry)) (from + k) nan) (getD (now (means .entry)) k nan)) (length (now (means .entry))) ++ drop (length (now (means .entry))) (now (row .entry)) ⌝ }
+{
+    let mut k = 0usize;
+    while k < means.len() {
+        let value = row[from + k];
+        row[k] = value - means[k];
+        k += 1;
+    }
+}
+
+// The same with the means over the frames around i, i + 1, .., as many as fill the two rows, in
+// which they are worked out.
+fn centre_block(
+    row: &mut [f32],
+    sums: &[f64],
+    first: f32,
+    last: f32,
+    radius: usize,
+    from: usize,
+    i: usize,
+    wide: &mut [f64],
+    means: &mut [f32],
+)
+    requires { ⌜ length (now means) ≡ length (now wide) ⌝ ∗ ⌜ from + length (now wide) ≤ length (now row) ⌝ ∗ ⌜ i + length (now wide) < length (now sums) ⌝ ∗ ⌜ radius ≤ radiusMost ⌝ }
+    ensures { λ _. ⌜ now (row .exit) ≡ tabulate (λ (k : ℕ). sub binary32 (getD (now (row .entry)) (from + k) nan) (nearestF32 (wideMean (now (sums .entry)) first last radius (i + k)))) (length (now (wide .entry))) ++ drop (length (now (wide .entry))) (now (row .entry)) ⌝ }
+{
+    fill_means(wide, sums, first, last, radius, i);
+    narrow_row(means, wide);
+    take_off(row, means, from);
 }
 
 // Replaces `count` values at the row's front: place i gets the centred value of frame `from` + i.
@@ -99,11 +161,24 @@ fn centre(row: &mut [f32], sums: &[f64], radius: usize, from: usize, count: usiz
 {
     let first = row[0];
     let last = row[row.len() - 1];
-    let mut i = 0usize;
-    while i < count {
-        let value = row[from + i];
-        row[i] = value - mean_around(sums, first, last, radius, from + i);
-        i += 1;
+    let mut wide = [0.0f64; BLOCK];
+    let mut means = [0.0f32; BLOCK];
+    let mut at = 0usize;
+    while at < count {
+        let n = min(BLOCK, count - at);
+        let i = from + at;
+        centre_block(
+            &mut row[at..],
+            sums,
+            first,
+            last,
+            radius,
+            from,
+            i,
+            &mut wide[..n],
+            &mut means[..n],
+        );
+        at = at + n;
     }
 }
 

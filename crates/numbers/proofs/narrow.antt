@@ -1,3 +1,4 @@
--- What the proofs of `dropped`, `any_bits` and `narrow_bits` share.
+-- What the proofs of narrowing share.
 mod Drop
 mod Patterns
+mod Plain

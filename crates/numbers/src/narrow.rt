@@ -6,7 +6,9 @@ ghost use lib.Ieee.{binary32, round, toBits};
 ghost use mathlib.Core.Bool.{cond};
 ghost use mathlib.Core.Path.{_≡_};
 ghost use Rattle.numbers.specs.Parts.{Dropped};
+ghost use Rattle.numbers.specs.Plain.{Plain, plain};
 ghost use Rattle.numbers_spec.specs.Narrow.{nearestF32};
+use crate::float::at_least;
 use crate::float::is_finite;
 use crate::parts::WHOLE;
 use crate::parts::split;
@@ -97,8 +99,8 @@ fn dropped(sig: u64, exp: u64) -> u64
     }
 }
 
-// sig / 2 ^ shift to the nearest whole number, a tie to the even one: just under a half is added,
-// or a half where the last digit kept is odd. No branch: the rest is as good as random.
+// sig / 2 ^ shift to the nearest whole number, a tie to the even one, by the sum of `bySum`: just under
+// a half is added, or a half where the last digit kept is odd. No branch: the rest is as good as random.
 fn nearest(sig: u64, shift: u64) -> u64
     requires { ⌜ sig < 2 ^ 63 ⌝ ∗ ⌜ 0 < shift ⌝ ∗ ⌜ shift < 64 ⌝ }
     ensures { λ r. ⌜ r ≡ closest sig (2 ^ shift) ⌝ }
@@ -113,4 +115,29 @@ fn sign_bit(minus: bool) -> u64
     ensures { λ r. ⌜ r ≡ cond minus 2147483648 0 ⌝ }
 {
     if minus { 0x8000_0000 } else { 0 }
+}
+
+// The least normal f32, 2 ^ -126, and the largest.
+const NORMAL_LEAST: f64 = 1.1754943508222875e-38;
+
+const NORMAL_MOST: f64 = 3.4028234663852886e38;
+
+// Whether x is plain, for `narrow_plain`: +0, as silence brings, or from the least normal f32 to the
+// largest. No branch. (Any floor below 0 serves: it stands for a NaN, whose pattern can't be read.)
+pub fn is_plain(x: f64) -> bool
+    ensures { λ r. ⌜ r ≡ plain x ⌝ }
+{
+    (x >= NORMAL_LEAST) & (x <= NORMAL_MOST) | (f64::to_bits(at_least(-1.0, x)) == 0)
+}
+
+// The f32 nearest to a plain number. The sum is taken of the whole pattern, whose exponent counts a
+// carry by itself and is then brought to the f32's. No test of the digits: in a row this is vector code.
+pub fn narrow_plain(x: f64) -> f32
+    requires { ⌜ Plain x ⌝ }
+    ensures { λ r. ⌜ r ≡ nearestF32 x ⌝ }
+{
+    if x > 0.0 {
+        return f32::from_bits((nearest(f64::to_bits(x), EXCESS) - LEAST_NORMAL * FIELD) as u32);
+    }
+    0.0
 }

@@ -1,16 +1,14 @@
--- What the passes over a row of logarithms share: that numbers below plus infinity go through them, one more place of a row, and that what the passes give is `ln_1p`. Assumes nothing.
+-- What the passes over a row of logarithms share: that numbers below plus infinity go through them, and that what the passes give is `ln_1p`. Assumes nothing.
 use mathlib.Core.Path.{_≡_, refl, sym, subst, ap, _∙_}
 use mathlib.Core.Bool.{Bool, true, false, cond, not, _&&_}
 use mathlib.Core.List.{List}
 use Prim.Native.Nat.{ℕ, zero, suc, _+_, _-_, _*_, _≤_, _<_}
-use native.Mathlib.Nat.{zero-lt-suc, not-suc-le-zero, lt-irrefl, lt-of-lt-of-le, sub-zero, zero-add, add-zero, zero-mul, mul-one, one-mul}
+use native.Mathlib.Nat.{zero-lt-suc, sub-zero, zero-add, add-zero, zero-mul, mul-one, one-mul}
 use native.Mathlib.Omega.{arith}
 use borrow.Author.Tests.{lt-ltb}
-use borrow.Author.Count.{below-more}
 use lib.Dec.{T, ltb, ltb→lt, nltb→le}
 use lib.IntN.{pos}
-use lib.ListN.{getD, length, set}
-use lib.Seq.{ext-getD, getD-set-same, getD-set-other}
+use lib.ListN.{getD, length}
 use lib.Ieee.{Float, nan, inf, fin, binary32, binary64, up, down, sum, round, add, mul, neg, lt, le, ofBits, ofInt, fits, isNan}
 use lib.Ieee.Fits.{mul-fits}
 use Rattle.numbers_spec.specs.Arithmetic.{_⊕_, _⊖_, _⊗_, _⊘_, zero⁺, one, two}
@@ -24,6 +22,7 @@ use Rattle.numbers_spec.proofs.Placed.{round-own}
 use Rattle.numbers_spec.proofs.LogLaws.{log-is}
 use Rattle.numbers_spec.proofs.Log1p.{one-more-normal}
 use Rattle.numbers_spec.proofs.RowLaws.{length-logs, log-at}
+use Rattle.numbers_rows.proofs.Rows.{all-places}
 use Rattle.numbers_rows.specs.Logs.{Below, AllBelow, Holds, Logged, nearOne, power, ratio, terms, joined}
 use Rattle.numbers_spec.specs.Rows.{logsOf}
 
@@ -34,32 +33,9 @@ below-number nan b = absurd b
 below-number (inf s) b = tt
 below-number (fin s m e) b = tt
 
--- ---- one more place of a row
-pub holds-more : (g : ℕ → Float) (n : ℕ) (row : List Float) {v : Float} → ((k : ℕ) → k < n → getD row k nan ≡ g k) → v ≡ g n → n < length row
-    → (k : ℕ) → k < n + 1 → getD (set row n v) k nan ≡ g k
-holds-more g n row {v} h e l =
-    below-more (λ (k : ℕ). getD (set row n v) k nan ≡ g k) n
-    (λ k b. getD-set-other row n k v nan (λ q. lt-irrefl n (subst (λ (x : ℕ). x < n) q b)) ∙ h k b)
-    (getD-set-same row n v nan l ∙ e)
-
--- nothing is asked of no place
-pub none : {A : Type 0} {k : ℕ} → k < 0 → A
-none l = absurd (not-suc-le-zero l)
-
--- one more place behind the first `at`, which stay
-pub holds-behind : (g : ℕ → Float) (at n : ℕ) (row : List Float) {v : Float} → ((k : ℕ) → k < n → getD row (at + k) nan ≡ g k) → v ≡ g n → at + n < length row
-    → (k : ℕ) → k < n + 1 → getD (set row (at + n) v) (at + k) nan ≡ g k
-holds-behind g at n row {v} h e l =
-    below-more (λ (k : ℕ). getD (set row (at + n) v) (at + k) nan ≡ g k) n
-    (λ k b. getD-set-other row (at + n) (at + k) v nan (λ q. lt-irrefl n (omega (arith, q, b))) ∙ h k b)
-    (getD-set-same row (at + n) v nan l ∙ e)
-
-pub kept-before : (at n : ℕ) (row old : List Float) (v : Float) → ((k : ℕ) → k < at → getD row k nan ≡ getD old k nan) → (k : ℕ) → k < at → getD (set row (at + n) v) k nan ≡ getD old k nan
-kept-before at n row old v h k b = getD-set-other row (at + n) k v nan (λ q. lt-irrefl at (omega (arith, q, b))) ∙ h k b
-
 -- all places hold their logarithm
 pub logged-all : (w : List Float) (n : ℕ) (row : List Float) → Logged w n row → length row ≡ length w → length w ≤ n → row ≡ logsOf w
-logged-all w n row h e l = ext-getD nan row (logsOf w) (e ∙ sym (length-logs w)) (λ k b. h k (lt-of-lt-of-le (subst (λ (x : ℕ). k < x) e b) l) ∙ sym (log-at w k))
+logged-all w n row h e l = all-places (logsOf w) n row (λ k b. h k b ∙ sym (log-at w k)) (e ∙ sym (length-logs w)) (subst (λ (x : ℕ). x ≤ n) (sym (length-logs w)) l)
 
 -- ---- -0 changes no sum
 minus-zero-sum : (a c : ℕ) → cond (ltb 0 a) (round binary64 false (a - 0) c) (round binary64 (true && ltb a 0) (0 - a) c) ≡ round binary64 false a c

@@ -1,7 +1,7 @@
-// `ln_1p` of each number of a row, in short passes: all but the last, which narrows, have no branch,
-// so that they become vector code. Each number goes the steps of `ln_1p` and `ln` in their order; both
-// ways of it, up to 0.375 and above, are worked out, and one is chosen. A row with a NaN or plus
-// infinity is given to `ln_1p`, one number after the other.
+// `ln_1p` of each number of a row, in short passes without a branch, so that they become vector code.
+// Each number goes the steps of `ln_1p` and `ln` in their order; both ways of it, up to 0.375 and above,
+// are worked out, and one is chosen. A row with a NaN or plus infinity is given to `ln_1p`, one number
+// after the other.
 ghost use Prim.Native.Nat.{ℕ, _+_, _*_, _<_, _≤_};
 ghost use lib.IntN.{pos};
 ghost use lib.Ieee.{Float, binary64, le, nan, ofInt};
@@ -13,6 +13,7 @@ ghost use Rattle.numbers_spec.specs.Rows.{logsOf};
 ghost use Rattle.numbers_spec.specs.Arithmetic.{_⊕_, _⊗_, _⊘_, one, zero⁺};
 ghost use Rattle.numbers_spec.specs.Logarithm.{logSeries, seriesMost};
 ghost use Rattle.numbers_spec.specs.Narrow.{nearestF32};
+use crate::narrow_row::narrow_row;
 use numbers::constants::HI;
 use numbers::constants::LO;
 use numbers::constants::SERIES_MOST;
@@ -21,7 +22,6 @@ use numbers::logarithm::halved;
 use numbers::logarithm::ln_1p;
 use numbers::logarithm::mantissa;
 use numbers::logarithm::raised;
-use numbers::narrow::narrow;
 
 // ln(1 + w) of each w, as an f32.
 pub fn ln_1p_row(logs: &mut [f32], w: &[f32])
@@ -67,7 +67,7 @@ fn is_below(w: f32) -> bool
 }
 
 // So many numbers go through the passes together that the working rows stay in the nearest cache.
-const BLOCK: usize = 120;
+pub const BLOCK: usize = 120;
 
 // Block after block.
 fn log_blocks(logs: &mut [f32], w: &[f32])
@@ -126,7 +126,7 @@ fn log_block(
     ratio_row(ratios, near, w, at, n);
     series_row(sums, near, zeros, ratios, n);
     join_row(near, powers, ratios, sums, n);
-    narrow_row(logs, near, at, n);
+    narrow_block(logs, near, at, n);
 }
 
 // m and e of each 1 + w.
@@ -253,14 +253,11 @@ fn join(e: f64, s: f64, q: f64) -> f64
 }
 
 // The nearest f32 of each.
-fn narrow_row(logs: &mut [f32], wide: &[f64], at: usize, n: usize)
+fn narrow_block(logs: &mut [f32], wide: &[f64], at: usize, n: usize)
     requires { ⌜ at + n ≤ length (now logs) ⌝ ∗ ⌜ n ≤ length (now wide) ⌝ }
     ensures { λ _. ⌜ ((k : ℕ) → k < at → getD (now (logs .exit)) k nan ≡ getD (now (logs .entry)) k nan) ⌝ }
     ensures { λ _. ⌜ ((k : ℕ) → k < n → getD (now (logs .exit)) (at + k) nan ≡ nearestF32 (getD (now (wide .entry)) k nan)) ⌝ }
 {
-    let mut k = 0usize;
-    while k < n {
-        logs[at + k] = narrow(wide[k]);
-        k += 1;
-    }
+    let end = at + n;
+    narrow_row(&mut logs[at..end], &wide[0..n]);
 }

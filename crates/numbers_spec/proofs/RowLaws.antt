@@ -4,6 +4,7 @@ use Prim.Native.Nat.{ℕ, zero, suc, _+_, _-_, _*_, _<_, _≤_}
 use native.Mathlib.Nat.{suc-mul, mul-le-mul-right, not-suc-le-zero, eq-or-lt-of-le}
 use mathlib.Core.Bool.{Bool, true, false, cond, _&&_}
 use mathlib.Core.Logic.{⊎-elim}
+use lib.Dec.{T}
 use lib.Ieee.{Float, nan, add, le, ofBits}
 use Rattle.numbers_spec.specs.Arithmetic.{_⊕_}
 use native.Mathlib.Numerals.{add-one}
@@ -15,7 +16,7 @@ use lib.Seq.{drop-length, getD-at, drop-cons, set-at, append-snoc, take-at, drop
 use Rattle.numbers_spec.specs.Logarithm.{logOf, log1pOf}
 use Rattle.numbers_spec.specs.Narrow.{nearestF32}
 use Rattle.numbers_spec.specs.Root.{rootOf}
-use Rattle.numbers_spec.specs.Rows.{tabulate, rows, row, allTo, sumTo, tally, rootsOf, logsOf}
+use Rattle.numbers_spec.specs.Rows.{tabulate, rows, row, allTo, sumTo, tally, every, narrowedOf, rootsOf, logsOf}
 
 module _ {A : Type 0} (f : ℕ → A) where
   pub length-tabulate : (n : ℕ) → length (tabulate f n) ≡ n
@@ -141,6 +142,15 @@ all-fails p (suc n) i h q = ⊎-elim
     and-false true = refl
     and-false false = refl
 
+-- what passes everywhere passes at each place
+pub every-at : (p : Float → Bool) (l : List Float) (i : ℕ) → T (every p l) → i < length l → T (p (getD l i nan))
+unfolding every
+every-at p l i h w = go (p (getD l i nan)) refl
+  where
+    go : (b : Bool) → p (getD l i nan) ≡ b → T b
+    go true e = tt
+    go false e = subst T (all-fails (λ (k : ℕ). p (getD l k nan)) (length l) i w e) h
+
 -- at most n of n
 pub tally-few : (p : ℕ → Bool) (n : ℕ) → tally p n ≤ n
 unfolding tally
@@ -198,6 +208,15 @@ unfolding rootsOf rootOf
 root-at [] i = refl
 root-at (x ∷ l) zero = refl
 root-at (x ∷ l) (suc i) = root-at l i
+
+pub length-narrowed : (x : List Float) → length (narrowedOf x) ≡ length x
+unfolding narrowedOf
+length-narrowed x = length-map x nearestF32
+
+-- past the end too
+pub narrowed-at : (x : List Float) (k : ℕ) → getD (narrowedOf x) k nan ≡ nearestF32 (getD x k nan)
+unfolding narrowedOf nearestF32
+narrowed-at x k = List·getD-map nearestF32 x k nan
 
 pub length-logs : (w : List Float) → length (logsOf w) ≡ length w
 unfolding logsOf

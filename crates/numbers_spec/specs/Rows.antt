@@ -6,6 +6,7 @@ use lib.Dec.{T}
 use lib.ListN.{length, getD, take, drop}
 use lib.Ieee.{Float, nan, binary32, fits}
 use Rattle.numbers_spec.specs.Arithmetic.{_⊕_, zero⁺}
+use Rattle.numbers_spec.specs.Narrow.{nearestF32}
 use Rattle.numbers_spec.specs.Root.{rootOf}
 use Rattle.numbers_spec.specs.Logarithm.{log1pOf}
 
@@ -52,6 +53,10 @@ abbrev pub F32 : Float → Type 0
 F32 x = T (fits binary32 x)
 
 -- ---- functions of each number of a row
+-- The nearest f32 of each number of a row.
+unfoldable pub narrowedOf : List Float → List Float
+narrowedOf x = map nearestF32 x
+
 -- The roots of a row of numbers.
 unfoldable pub rootsOf : List Float → List Float
 rootsOf [] = []

@@ -1,38 +1,19 @@
 -- `numbers::narrow::narrow` meets its contract. Assumes nothing.
-use mathlib.Core.Path.{_≡_, refl, sym, ap, _∙_, subst}
-use mathlib.Core.Bool.{Bool, true, false, not, true≢false, false≢true}
-use Prim.Native.Nat.{ℕ, _*_, _^_, _<_}
+use mathlib.Core.Path.{_≡_, refl, sym, _∙_, subst}
+use mathlib.Core.Bool.{true, false, true≢false, false≢true}
+use Prim.Native.Nat.{_*_, _^_}
 use native.Mathlib.Omega.{arith}
 use lib.IntN.{pos}
 use lib.Dec.{T}
 use lib.Pow.{pow-pos}
-use lib.Ieee.{Float, nan, inf, fin, binary32, round, toBits, ofBits, nanBits, isNan, lt, div, neg, up, down}
-use lib.Ieee.Fits.{round-fits, down-pos}
-use lib.Ieee.Bits.{toBits-lt, ofBits-toBits, nanBits-is}
-use lib.Ieee.Exact.{HasValue}
-use lib.Ieee.Scale.{finite, round-same}
+use lib.Ieee.{Float, nan, inf, fin, binary32, round, ofBits, lt, div, neg}
+use lib.Ieee.Fits.{round-fits}
+use lib.Ieee.Scale.{finite}
 use borrow.Author.Needs.{needs}
 use Rattle.numbers_spec.specs.Narrow.{nearestF32}
-use Rattle.numbers_spec.proofs.Encode.{round-no-nan}
+use Rattle.numbers.proofs.narrow.Patterns.{by-value, fits-32, back, no-nan}
 use Rattle.numbers.proofs.narrow.narrow.Statement.{statement}
 use Rattle.numbers.proofs.narrow.narrow.Tie as tie
-
-by-value : (x : Float) (s : Bool) (a c : ℕ) → 0 < c → HasValue x s a c → round binary32 s a c ≡ nearestF32 x
-unfolding nearestF32
-by-value nan s a c C h = absurd h
-by-value (inf t) s a c C h = absurd h
-by-value (fin t m e) s a c C h = round-same binary32 s a c (m * up e) (down e) C (down-pos e) (sym (h .1)) ∙ ap (λ (b : Bool). round binary32 b (m * up e) (down e)) (sym (h .0))
-
-fits-32 : (n : ℕ) (v : Float) → n ≡ toBits binary32 v → T (lib.Ieee.fits binary32 v) → n < 4294967296
-fits-32 n v e F = subst (λ (k : ℕ). k < 4294967296) (sym e) (toBits-lt binary32 v F)
-
-back : (n : ℕ) (v : Float) → n ≡ toBits binary32 v → T (lib.Ieee.fits binary32 v) → ofBits binary32 n ≡ v
-back n v e F = ap (ofBits binary32) e ∙ ofBits-toBits binary32 v F
-
-no-nan : (n : ℕ) (s : Bool) (a c : ℕ) → n ≡ toBits binary32 (round binary32 s a c) → T (not (nanBits binary32 n))
-no-nan n s a c e =
-    let v = round binary32 s a c in
-    subst (λ (b : Bool). T (not b)) (sym (nanBits-is binary32 n ∙ ap isNan (back n v e (round-fits binary32 s a c)) ∙ round-no-nan binary32 s a c)) tt
 
 above : (x : Float) → finite x ≡ false → lt (fin false 0 (pos 0)) x ≡ true → inf false ≡ nearestF32 x
 unfolding nearestF32 lt

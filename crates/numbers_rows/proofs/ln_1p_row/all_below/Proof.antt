@@ -9,7 +9,7 @@ use lib.Dec.{T}
 use lib.Ieee.Bits.{is-true}
 use lib.Ieee.Fits.{and-l, and-r}
 use lib.Ieee.{nan}
-use Rattle.numbers_rows.proofs.LogPasses.{none}
+use Rattle.numbers_rows.proofs.Rows.{none}
 use mathlib.Core.Bool.{true}
 use Rattle.numbers_rows.specs.Logs.{Below}
 use Rattle.numbers_rows.proofs.ln_1p_row.all_below.Statement.{statement}

@@ -5,7 +5,7 @@ use native.Mathlib.Omega.{arith}
 use borrow.Author.Needs.{needs}
 use lib.ListN.{getD, length, length-set}
 use lib.Ieee.{nan}
-use Rattle.numbers_rows.proofs.LogPasses.{none, holds-more}
+use Rattle.numbers_rows.proofs.Rows.{none, holds-more}
 use Rattle.numbers_rows.specs.Logs.{joined}
 use Rattle.numbers_rows.proofs.ln_1p_row.join_row.Statement.{statement}
 use Rattle.numbers_rows.proofs.ln_1p_row.join_row.Tie as tie

@@ -27,8 +27,8 @@ join-row-requires c κs =
     let split = c .before .before .before .before .before .before .before .before .before .before .before .before .before .before .before .before .before .before .before .before .before .split-row in
     (omega (arith, room .1 .0, split .kept .0, series .kept .1 .0), (omega (arith, room .1 .1 .0, split .kept .1 .0), (omega (arith, room .1 .1 .1 .0, c .before .before .before .before .before .before .before .before .before .before .before .before .before .before .ratio-row .kept .0), omega (arith, room .1 .1 .1 .1 .0, series .kept .0))))
 
-narrow-row-requires : tie.Need-narrow-row-requires
-narrow-row-requires c κs =
+narrow-block-requires : tie.Need-narrow-block-requires
+narrow-block-requires c κs =
     let start = c .before .before .before .before .before .before .before .before .before .before .before .before .before .before .before .before .before .before .before .before .before .before .before .before .before .before .before .before .before .before .before .before .before .before .before .before in
     let room = start .pre .1 .1 .1 in
     (omega (arith, start .pre .0, start .pre .1 .0), omega (arith, room .1 .0, c .before .before .before .before .before .before .before .before .before .before .before .before .before .before .before .before .before .before .before .before .before .before .before .before .before .before .split-row .kept .0, c .before .before .before .before .before .before .before .before .before .before .before .before .before .series-row .kept .1 .0, c .before .before .before .before .join-row .kept .0))
@@ -41,7 +41,7 @@ returns c =
     let ratio = c .before .before .before .before .before .before .before .before .before .before .before .before .before .before .before .before .before .before .before .before .before .before .ratio-row in
     let series = c .before .before .before .before .before .before .before .before .before .before .before .before .before .before .before .before .series-row in
     let join = c .before .before .before .before .before .before .before .join-row in
-    let narrow = c .before .before .narrow-row in
+    let narrow = c .before .before .narrow-block in
     block-logged (a .w .now) (a .at) (a .n) (split .last .1 .0) (ratio .last .0) (series .last .0) (join .last .0) (narrow .last .0)
     (c .before .before .before .before .before .before .before .before .before .before .before .before .before .before .before .before .before .before .before .before .before .before .before .before .before .before .before .before .before .before .before .before .before .before .before .before .before .shared-slice-known .given) (start .pre .1 .1 .0) (start .pre .1 .0)
     (record { powers-are = split .ensures .1; ratios-are = ratio .ensures; sums-are = series .ensures; joined-are = join .ensures; narrow-are = narrow .ensures .1 })
@@ -55,7 +55,7 @@ log-block-spec =
     ratio-row-requires
     series-row-requires
     join-row-requires
-    narrow-row-requires
+    narrow-block-requires
     (λ c. search needs)
     (λ c. search needs)
     (λ c. search needs)

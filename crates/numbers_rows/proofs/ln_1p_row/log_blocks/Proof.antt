@@ -7,7 +7,8 @@ use lib.ListN.{length, getD-replicate}
 use lib.Ieee.{nan, ofBits}
 use Rattle.numbers_spec.specs.Arithmetic.{zero⁺}
 use Rattle.numbers_rows.specs.Logs.{Logged}
-use Rattle.numbers_rows.proofs.LogPasses.{none, logged-all}
+use Rattle.numbers_rows.proofs.LogPasses.{logged-all}
+use Rattle.numbers_rows.proofs.Rows.{none}
 use Rattle.numbers_rows.proofs.ln_1p_row.log_blocks.Statement.{statement}
 use Rattle.numbers_rows.proofs.ln_1p_row.log_blocks.Tie as tie
 

@@ -4,7 +4,8 @@ use Prim.Native.Nat.{_-_, _≤_}
 use native.Mathlib.Omega.{arith}
 use borrow.Author.Needs.{needs}
 use lib.ListN.{length, length-set}
-use Rattle.numbers_rows.proofs.LogPasses.{logged-all, none, holds-more}
+use Rattle.numbers_rows.proofs.LogPasses.{logged-all}
+use Rattle.numbers_rows.proofs.Rows.{none, holds-more}
 use Rattle.numbers_rows.specs.Logs.{Logged}
 use Rattle.numbers_rows.proofs.ln_1p_row.log_each.Statement.{statement}
 use Rattle.numbers_rows.proofs.ln_1p_row.log_each.Tie as tie

@@ -4,7 +4,8 @@ use Prim.Native.Nat.{ℕ, _+_, _-_, _≤_}
 use native.Mathlib.Omega.{arith}
 use lib.ListN.{getD, length, length-set}
 use lib.Ieee.{nan}
-use Rattle.numbers_rows.proofs.LogPasses.{none, holds-more, ratioOf}
+use Rattle.numbers_rows.proofs.LogPasses.{ratioOf}
+use Rattle.numbers_rows.proofs.Rows.{none, holds-more}
 use Rattle.numbers_rows.specs.Logs.{Holds, ratio}
 use Rattle.numbers_rows.proofs.ln_1p_row.ratio_row.Statement.{statement}
 use Rattle.numbers_rows.proofs.ln_1p_row.ratio_row.Tie as tie

@@ -4,7 +4,7 @@ use Prim.Native.Nat.{ℕ, _+_, _-_, _≤_}
 use native.Mathlib.Omega.{arith}
 use lib.ListN.{getD, length, length-set}
 use lib.Ieee.{nan}
-use Rattle.numbers_rows.proofs.LogPasses.{none, holds-more}
+use Rattle.numbers_rows.proofs.Rows.{none, holds-more}
 use Rattle.numbers_rows.specs.Logs.{Holds, nearOne, power}
 use Rattle.numbers_rows.proofs.ln_1p_row.split_row.Statement.{statement}
 use Rattle.numbers_rows.proofs.ln_1p_row.split_row.Tie as tie

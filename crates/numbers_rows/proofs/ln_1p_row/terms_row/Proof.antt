@@ -5,7 +5,8 @@ use native.Mathlib.Omega.{arith}
 use borrow.Author.Needs.{needs}
 use lib.ListN.{getD, length, length-set}
 use lib.Ieee.{nan}
-use Rattle.numbers_rows.proofs.LogPasses.{four-are, none, holds-more}
+use Rattle.numbers_rows.proofs.LogPasses.{four-are}
+use Rattle.numbers_rows.proofs.Rows.{none, holds-more}
 use Rattle.numbers_spec.specs.Arithmetic.{_⊗_}
 use Rattle.numbers_rows.specs.Logs.{terms}
 use Rattle.numbers_rows.proofs.ln_1p_row.terms_row.Statement.{statement}
