@@ -99,7 +99,7 @@ pub fn compare<A: Value, B: Value>(
         }
     });
     let (compared, differences) = (compared.into_inner(), differences.into_inner());
-    println!("{name:<13} {compared:>10} inputs, {differences} differences");
+    println!("{name:<15} {compared:>10} inputs, {differences} differences");
     let whole = families.iter().all(|family| family.count > 0) && compared > 0 && compared == total;
     if !whole {
         println!(

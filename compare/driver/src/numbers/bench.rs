@@ -2,7 +2,7 @@
 //! machine.
 
 use super::inputs::of_field;
-use super::ours;
+use super::{ours, ties};
 use crate::family::pattern;
 use crate::value::Value;
 use sonalign::replaced;
@@ -40,8 +40,31 @@ pub fn table() -> String {
     } = empty;
     format!(
         "{HEAD}{rows}\nNanoseconds per call, the least of {ROUNDS} medians of {REPEATS}. \
-         A call that does nothing: latency {latency:.1}, throughput {throughput:.1}.\n\n{}",
+         A call that does nothing: latency {latency:.1}, throughput {throughput:.1}.\n\n{}{}",
+        apart(&least),
         in_rows()
+    )
+}
+
+/// Three rows that would differ if `narrow` had a branch on a tie: one that is badly foretold takes
+/// longer where ties come at random.
+const ALL_TIES: &str = "narrow, all ties";
+const NO_TIE: &str = "narrow, no tie";
+const MIXED: &str = "narrow, mixed";
+
+/// How far the three lie apart.
+fn apart(rows: &[Row]) -> String {
+    let three = |row: &&Row| [ALL_TIES, NO_TIE, MIXED].contains(&row.name);
+    let percent = |time: fn(Times) -> f64| {
+        let times = rows.iter().filter(three).map(|row| time(row.ours));
+        let mut times: Vec<f64> = times.collect();
+        times.sort_by(f64::total_cmp);
+        100.0 * (times[2] / times[0] - 1.0)
+    };
+    let (throughput, latency) = (percent(|t| t.throughput), percent(|t| t.latency));
+    format!(
+        "narrow on ties, none and mixed: throughput within {throughput:.1} %, \
+         latency within {latency:.1} %.\n\n"
     )
 }
 
@@ -54,16 +77,18 @@ fn in_rows() -> String {
     let root = in_row("root", "`f64::sqrt`", &x, ours::root_row, f64::sqrt);
     let (of_row, of_one) = (ours::ln_1p_row, replaced::ln_1p);
     let log = in_row("`ln_1p`", "`replaced`", &floats(), of_row, of_one);
-    format!("{root}{log}")
+    let x: Vec<f64> = doubles(ties::NORMAL).iter().map(|x| x.abs()).collect();
+    let narrow = in_row("narrow", "`as f32`", &x, ours::narrow_row, |x| x as f32);
+    format!("{root}{log}{narrow}")
 }
 
 /// The least of all repeats.
-fn in_row<V: Value + Default>(
+fn in_row<A: Value, B: Value + Default>(
     name: &str,
     beside: &str,
-    x: &[V],
-    of_row: fn(&mut [V], &[V]) -> bool,
-    of_one: impl Fn(V) -> V,
+    x: &[A],
+    of_row: fn(&mut [B], &[A]) -> bool,
+    of_one: impl Fn(A) -> B,
 ) -> String {
     let [mut ours, mut theirs] = [f64::INFINITY; 2];
     for _ in 0..ROUNDS * REPEATS {
@@ -83,8 +108,8 @@ fn in_row<V: Value + Default>(
     )
 }
 
-fn row_by_row<V: Value + Default>(x: &[V], act: impl Fn(&mut [V], &[V])) -> f64 {
-    let mut filled = [V::default(); ROW];
+fn row_by_row<A: Value, B: Value + Default>(x: &[A], act: impl Fn(&mut [B], &[A])) -> f64 {
+    let mut filled = [B::default(); ROW];
     let rows = x.chunks_exact(ROW);
     let count = rows.len() * ROW;
     let begun = Instant::now();
@@ -107,17 +132,18 @@ fn exact_rows() -> Vec<Row> {
     let whole = doubles(1019..=1063);
     vec![
         row("root", "`f64::sqrt`", &positive, ours::root, f64::sqrt),
-        row(
-            "narrow",
-            "`as f32`",
-            &doubles(923..=1123),
-            ours::narrow,
-            |x| x as f32,
-        ),
+        narrow_row("narrow", &doubles(ties::NORMAL)),
+        narrow_row(ALL_TIES, &numbered(ties::tie)),
+        narrow_row(NO_TIE, &numbered(ties::no_tie)),
+        narrow_row(MIXED, &numbered(ties::mixed)),
         row("round", "`f64::round`", &whole, ours::round, f64::round),
         row("floor", "`f64::floor`", &whole, ours::floor, f64::floor),
         row("ceil", "`f64::ceil`", &whole, ours::ceil, f64::ceil),
     ]
+}
+
+fn narrow_row(name: &'static str, inputs: &[f64]) -> Row {
+    row(name, "`as f32`", inputs, ours::narrow, |x| x as f32)
 }
 
 fn replaced_rows() -> Vec<Row> {
@@ -134,13 +160,17 @@ fn replaced_rows() -> Vec<Row> {
 }
 
 fn doubles(fields: RangeInclusive<u64>) -> Vec<f64> {
-    (0..INPUTS).map(|n| of_field(n, &fields)).collect()
+    numbered(|n| of_field(n, &fields))
+}
+
+fn numbered<A>(input: impl Fn(u64) -> A) -> Vec<A> {
+    (0..INPUTS).map(input).collect()
 }
 
 /// From 2^-10 to 2^6, so on either side of 0.375.
 fn floats() -> Vec<f32> {
     let bits = |n| (117 << 23) + (pattern(n) >> 32) as u32 % (16 << 23);
-    (0..INPUTS).map(|n| f32::from_bits(bits(n))).collect()
+    numbered(|n| f32::from_bits(bits(n)))
 }
 
 fn row<A: Value, B: Value>(

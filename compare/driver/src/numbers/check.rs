@@ -41,7 +41,9 @@ fn whole(effort: Effort) -> bool {
 
 fn narrow_and_root(effort: Effort) -> bool {
     let (narrow, root) = (inputs::narrow(effort), inputs::root(effort));
+    let in_row = rows::narrow_in_row;
     compare("narrow", ours::narrow, |x| x as f32, &narrow, effort)
+        & compare("narrow in a row", in_row, |x| x as f32, &narrow, effort)
         & compare("root", ours::root, f64::sqrt, &root, effort)
         & compare("root in a row", rows::root_in_row, f64::sqrt, &root, effort)
 }

@@ -3,12 +3,13 @@
 
 use super::edges;
 use super::roots::near_middle;
+use super::ties::{with_rest, RESTS};
 use crate::compare::Effort;
 use crate::family::{pattern, second_pattern, Family};
 use sonalign::replaced::{LN_OF_10, LOG2_OF_E, ROOT_OF_2};
 use std::ops::RangeInclusive;
 
-const DIGITS: u64 = (1 << 52) - 1;
+pub const DIGITS: u64 = (1 << 52) - 1;
 const SIGN: u64 = 1 << 63;
 const INFINITE_F32: u32 = 0x7f80_0000;
 
@@ -40,6 +41,7 @@ pub fn narrow(effort: Effort) -> Vec<Family<f64>> {
     vec![
         Family::list(edges::narrow()),
         every_exponent(),
+        Family::new(RESTS, with_rest),
         ties(count),
         // From far below the least f32 to beyond the largest.
         spread(count, 866..=1155),

@@ -9,3 +9,4 @@ mod ours;
 mod roots;
 mod rows;
 pub mod samples;
+mod ties;

@@ -35,6 +35,7 @@ exported! {
 unsafe extern "C" {
     fn numbers_root_row(roots: *mut f64, roots_len: usize, x: *const f64, x_len: usize) -> bool;
     fn numbers_ln_1p_row(logs: *mut f32, logs_len: usize, w: *const f32, w_len: usize) -> bool;
+    fn numbers_narrow_row(out: *mut f32, out_len: usize, x: *const f64, x_len: usize) -> bool;
 }
 
 /// Writes the roots of x, and says whether it has: the lengths must be equal.
@@ -47,4 +48,10 @@ pub fn root_row(roots: &mut [f64], x: &[f64]) -> bool {
 pub fn ln_1p_row(logs: &mut [f32], w: &[f32]) -> bool {
     // SAFETY: the pointers and lengths are of slices.
     unsafe { numbers_ln_1p_row(logs.as_mut_ptr(), logs.len(), w.as_ptr(), w.len()) }
+}
+
+/// Writes the f32 nearest to each x, and says whether it has: the lengths must be equal.
+pub fn narrow_row(out: &mut [f32], x: &[f64]) -> bool {
+    // SAFETY: the pointers and lengths are of slices.
+    unsafe { numbers_narrow_row(out.as_mut_ptr(), out.len(), x.as_ptr(), x.len()) }
 }
