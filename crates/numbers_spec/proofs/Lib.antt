@@ -23,6 +23,8 @@ pub mod RootLaws
 pub mod WholeLaws
 pub mod CountLaws
 pub mod TwoTo
+pub mod Distances
+pub mod Steps
 pub mod ExpReduced
 pub mod ExpSeries
 pub mod ExpLaws

@@ -4,7 +4,7 @@ use mathlib.Core.Logic.{_⊎_, inl, inr}
 use Prim.Native.Nat.{ℕ, _+_, _*_, _≤_, _<_}
 use native.Mathlib.Nat.{le-refl, eq-or-lt-of-le, eq-zero-or-pos, mul-right-comm, mul-le-mul-right, le-of-mul-le-mul-right, zero-mul, add-mul}
 use native.Mathlib.Omega.{arith}
-use mathlib.Core.Bool.{Bool, true, false, not, _&&_, _||_}
+use mathlib.Core.Bool.{Bool, true, false, cond, not, _&&_, _||_}
 use lib.IntN.{ℤ}
 use lib.Dec.{T, lit<, ltb, eqb, ltb→lt, lt→ltb, nltb→le, eqb→eq, T-not, not-T}
 use lib.Ieee.{Float, nan, inf, fin, up, down, neg, lt, eq, le, below, level, isNan}
@@ -16,7 +16,7 @@ use Rattle.numbers_spec.specs.Arithmetic.{zero⁺, magnitude}
 use Rattle.numbers_spec.proofs.Sign.{neg-neg}
 use Rattle.numbers_spec.proofs.Value.{finite-no-nan}
 use Rattle.numbers_spec.specs.Values.{Number, Den, AtMost, NotNegative, Between, Monotone}
-use Rattle.numbers_spec.specs.FloatLaws.{LeTransitive, LeReflexive, LeSelf, LeTotal, LtGivesLe, LeForbidsLt, NotLtGivesLe, NotLeGivesLt, BetweenFinite, NegAntitone, NegFinite, MagnitudeNeg, MagnitudeAbove, PositiveAbove, PositiveNotNegative, AtMostGivesBetween, BetweenGivesAtMost, AtMostFinite}
+use Rattle.numbers_spec.specs.FloatLaws.{LeNumber, LeTransitive, LeReflexive, LeSelf, LeTotal, LtGivesLe, LeForbidsLt, NotLtGivesLe, NotLeGivesLt, BetweenFinite, NegAntitone, NegFinite, MagnitudeNeg, MagnitudeAbove, PositiveAbove, PositiveNotNegative, AtMostGivesBetween, BetweenGivesAtMost, AbsoluteAtMost, AtMostFinite}
 
 -- ---- ±a as P - N
 abbrev pub P : Bool → ℕ → ℕ
@@ -186,6 +186,11 @@ le-reflexive (fin s m e) h = below→le (fin s m e) (fin s m e) tt tt (le-refl _
 
 pub le-self : LeSelf
 le-self x h = le-reflexive x (finite-no-nan x h)
+
+pub le-number : LeNumber
+le-number nan y h = absurd (unfold le in h)
+le-number (inf s) y h = unfold isNan in tt
+le-number (fin s m e) y h = unfold isNan in tt
 
 pub lt→le : LtGivesLe
 unfolding le
@@ -369,6 +374,16 @@ between-at-most b (fin false m e) i = i .to
 between-at-most b (inf true) i = rw neg-neg at (neg-le (neg b) (inf true) (i .from))
 between-at-most b (fin true m e) i = rw neg-neg at (neg-le (neg b) (fin true m e) (i .from))
 
+pub absolute-at-most : AbsoluteAtMost
+absolute-at-most b x B = go (lt x zero⁺) (lt→le x zero⁺) (λ h l. not-lt→le x zero⁺ (le-number x b h) (unfold isNan in tt) l)
+  where
+    down : T (le (neg b) zero⁺)
+    down = le-transitive (neg b) (neg zero⁺) zero⁺ (neg-le zero⁺ b B) (unfold neg le in tt)
+
+    go : (c : Bool) → (T c → T (le x zero⁺)) → (T (le x b) → T (not c) → T (le zero⁺ x)) → T (le (cond c (neg x) x) b) → AtMost b x
+    go true l k h = rw magnitude-neg at (between-at-most b (neg x) (record { from = le-transitive (neg b) (neg zero⁺) (neg x) (neg-le zero⁺ b B) (neg-le x zero⁺ (l tt)); to = h }))
+    go false l k h = between-at-most b x (record { from = le-transitive (neg b) zero⁺ x down (k h tt); to = h })
+
 pub at-most-finite : AtMostFinite
 unfolding magnitude le
 at-most-finite b nan B h = absurd h
@@ -383,6 +398,12 @@ no-negative-part nan X h = absurd X
 no-negative-part (inf s) X h = absurd X
 no-negative-part (fin false m e) X h = refl
 no-negative-part (fin true m e) X h = let z = le→below zero⁺ (fin true m e) tt tt h in omega arith
+
+pub no-positive-part : (x : Float) → T (finite x) → T (le x zero⁺) → Pos x ≡ 0
+no-positive-part nan X h = absurd X
+no-positive-part (inf s) X h = absurd X
+no-positive-part (fin true m e) X h = refl
+no-positive-part (fin false m e) X h = let z = le→below (fin false m e) zero⁺ tt tt h in omega arith
 
 -- what is not below a positive value
 pub positive-above : PositiveAbove

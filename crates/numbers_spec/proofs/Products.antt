@@ -18,7 +18,7 @@ use Rattle.numbers_spec.proofs.Order.{P, N, Pos, Neg, den-pos, times, l
 use Rattle.numbers_spec.proofs.Rounding.{Is, Rounded, rounded-mono, zeros, round-sided, sided-number, sided-not-negative, sided-not-positive, magnitude-round}
 
 -- ---- a product is a signed fraction, rounded
-mul-rounded : (f : Format) (x y : Float) → T (finite x) → T (finite y) → Rounded f (Pos x * Pos y + Neg x * Neg y) (Pos x * Neg y + Neg x * Pos y) (Den x * Den y) (mul f x y)
+pub mul-rounded : (f : Format) (x y : Float) → T (finite x) → T (finite y) → Rounded f (Pos x * Pos y + Neg x * Neg y) (Pos x * Neg y + Neg x * Pos y) (Den x * Den y) (mul f x y)
 unfolding mul
 mul-rounded f nan y X Y = absurd X
 mul-rounded f (inf s) y X Y = absurd X

@@ -1,7 +1,7 @@
 -- Signed fractions rounded: `round` keeps the order of (p - q) / c for all signs, and gives its own side of zero. Assumes nothing.
 use mathlib.Core.Path.{_≡_, refl, ap, _∙_}
-use Prim.Native.Nat.{ℕ, zero, suc, _+_, _*_, _^_, _≤_, _<_}
-use native.Mathlib.Nat.{lt-irrefl, zero-mul}
+use Prim.Native.Nat.{ℕ, zero, suc, _+_, _-_, _*_, _^_, _≤_, _<_}
+use native.Mathlib.Nat.{lt-irrefl, zero-mul, le-of-mul-le-mul-right}
 use native.Mathlib.Omega.{arith}
 use mathlib.Core.Bool.{Bool, true, false, Bool·beq, cond}
 use lib.IntN.{pos}
@@ -132,6 +132,23 @@ pub record Rounded (f : Format) (p q c : ℕ) (z : Float) : Type 0 where
 
 pub rounded-mono : (f : Format) (p q c p' q' c' : ℕ) (z z' : Float) → 0 < c → 0 < c' → Rounded f p q c z → Rounded f p' q' c' z' → p * c' + q' * c ≤ p' * c + q * c' → T (le z z')
 rounded-mono f p q c p' q' c' z z' C C' u v h = rw (u .rounded, v .rounded) (signed-mono f (u .sign) (u .size) p q c (v .sign) (v .size) p' q' c' C C' (u .is) (v .is) h)
+
+-- the same fraction over another denominator
+pub rounded-same : (f : Format) (p q c p' q' c' : ℕ) (z : Float) → 0 < c → 0 < c' → p * c' ≡ p' * c → q * c' ≡ q' * c → Rounded f p q c z → Rounded f p' q' c' z
+rounded-same f p q c p' q' c' z C C' h k r = go (r .sign) (r .size) (r .is) (r .rounded)
+  where
+    -- n is a - b over the one denominator, and a' - b' over the other
+    other : (n a b a' b' : ℕ) → n + b ≡ a → a * c' ≡ a' * c → b * c' ≡ b' * c → (a' - b' + b' ≡ a') × (n * c' ≡ (a' - b') * c)
+    other n a b a' b' i h k =
+        let x : (n + b) * c' ≡ a * c' = ap (λ (y : ℕ). y * c') i in
+        let l : b' ≤ a' = le-of-mul-le-mul-right {k = c} (omega arith) C in
+        let e : a' - b' + b' ≡ a' = omega arith in
+        let y : (a' - b' + b') * c ≡ a' * c = ap (λ (y : ℕ). y * c) e in
+        (e, omega arith)
+
+    go : (s : Bool) (n : ℕ) → Is s n p q → z ≡ round f s n c → Rounded f p' q' c' z
+    go true n i e = let o = other n q p q' p' i k h in record { sign = true; size = q' - p'; is = o .0; rounded = e ∙ round-same f true n c (q' - p') c' C C' (o .1) }
+    go false n i e = let o = other n p q p' q' i h k in record { sign = false; size = p' - q'; is = o .0; rounded = e ∙ round-same f false n c (p' - q') c' C C' (o .1) }
 
 pub is-own : (s : Bool) (n : ℕ) → Is s n (P s n) (N s n)
 is-own true n = omega arith

@@ -12,8 +12,8 @@ use lib.Ieee.Order.{round-mono}
 use lib.Ieee.Scale.{finite}
 use Rattle.numbers_spec.specs.Arithmetic.{zero⁺, magnitude}
 use Rattle.numbers_spec.specs.Values.{Number, sided, Den, AtMost}
-use Rattle.numbers_spec.specs.FloatLaws.{AddMonotone, AddGrows, SubMonotone, SubAntitone, SubSelf, SubNotNegative, SubNumber, SubSign, DistanceSymmetric, AddNotNegative, AddAtMost, SubAtMost, AddBetween}
-use Rattle.numbers_spec.proofs.Order.{P, N, P-mul, N-mul, Pos, Neg, den-pos, no-negative-part, times, tested→ordered, below→le, le→below, le-self, le-transitive, neg-le, neg-finite, between-finite, magnitude-finite, magnitude-neg, at-most-finite}
+use Rattle.numbers_spec.specs.FloatLaws.{AddMonotone, AddGrows, AddFalls, SubMonotone, SubAntitone, SubSelf, SubNotNegative, SubNumber, SubSign, DistanceSymmetric, AddNotNegative, AddAtMost, SubAtMost, AddBetween}
+use Rattle.numbers_spec.proofs.Order.{P, N, P-mul, N-mul, Pos, Neg, den-pos, no-negative-part, no-positive-part, times, tested→ordered, below→le, le→below, le-self, le-transitive, neg-le, neg-finite, between-finite, magnitude-finite, magnitude-neg, at-most-finite}
 use Rattle.numbers_spec.proofs.Rounding.{Is, Rounded, rounded-mono, is-own, zeros, round-sided, sided-number, magnitude-round, is-le}
 use Rattle.numbers_spec.proofs.Placed.{round-own}
 
@@ -218,8 +218,8 @@ sub-sign f (fin true m e) (fin true n d) X Y h =
     let z = tested→ordered true b true a h in
     inl (rw (not-before a b (omega arith)) (either-sided f (ltb a b) (b - a) (a - b) (down e * down d)))
 
--- ---- a value is its own rounded value, so adding what is not negative does not lower it
-own-rounded : (f : Format) (x : Float) → T (fits f x) → T (finite x) → Rounded f (Pos x) (Neg x) (Den x) x
+-- ---- a value is its own rounded value, so adding what is not negative does not lower it, nor does what is not above 0 raise it
+pub own-rounded : (f : Format) (x : Float) → T (fits f x) → T (finite x) → Rounded f (Pos x) (Neg x) (Den x) x
 own-rounded f nan F X = absurd X
 own-rounded f (inf s) F X = absurd X
 own-rounded f (fin s m e) F X = record { sign = s; size = m * up e; is = is-own s (m * up e); rounded = sym (round-own f s m e F) }
@@ -230,4 +230,12 @@ add-grows f x y F X Y p =
     (rw (no-negative-part y Y p) (lin (Pos x) (Neg x) (Den x) (Pos y) (Den y)))
   where
     lin : (a n c b d : ℕ) → a * (c * d) + (n * d + 0 * c) * c ≤ (a * d + b * c) * c + n * (c * d)
+    lin a n c b d = omega arith
+
+pub add-falls : AddFalls
+add-falls f x y F X Y p =
+    rounded-mono f _ _ _ _ _ _ (add f x y) x (mul-pos (den-pos x) (den-pos y)) (den-pos x) (add-rounded f x y X Y) (own-rounded f x F X)
+    (rw (no-positive-part y Y p) (lin (Pos x) (Neg x) (Den x) (Neg y) (Den y)))
+  where
+    lin : (a n c b d : ℕ) → (a * d + 0 * c) * c + n * (c * d) ≤ a * (c * d) + (n * d + b * c) * c
     lin a n c b d = omega arith

@@ -11,7 +11,7 @@ use lib.ListN.{length}
 use lib.Ieee.{Float, fin, Format, binary32, binary64, round, add, sub, mul, div, neg, lt, le, fits}
 use lib.Ieee.Positive.{positive}
 use lib.Ieee.Scale.{finite}
-use Rattle.numbers_spec.specs.Arithmetic.{zero⁺, one, real, magnitude}
+use Rattle.numbers_spec.specs.Arithmetic.{zero⁺, one, real, absolute, magnitude}
 use Rattle.numbers_spec.specs.Narrow.{nearestF32}
 use Rattle.numbers_spec.specs.Values.{Number, sided, size, Den, AtMost, NotNegative, Between, Monotone, Within, Holds, Each, running}
 
@@ -37,6 +37,10 @@ NegFinite = (x : Float) → T (finite x) → T (finite (neg x))
 -- Of two values that are no NaN, one is at most the other.
 abbrev pub LeTotal : Type 0
 LeTotal = (x y : Float) → Number x → Number y → T (le x y) ⊎ T (le y x)
+
+-- What is at most anything is no NaN.
+abbrev pub LeNumber : Type 0
+LeNumber = (x y : Float) → T (le x y) → Number x
 
 -- x < y gives x ≤ y.
 abbrev pub LtGivesLe : Type 0
@@ -75,6 +79,10 @@ AtMostGivesBetween = (b x : Float) → AtMost b x → Between (neg b) b x
 abbrev pub BetweenGivesAtMost : Type 0
 BetweenGivesAtMost = (b x : Float) → Between (neg b) b x → AtMost b x
 
+-- |x| ≤ b as it is worked out by comparison
+abbrev pub AbsoluteAtMost : Type 0
+AbsoluteAtMost = (b x : Float) → NotNegative b → T (le (absolute x) b) → AtMost b x
+
 -- What has a finite bound is finite.
 abbrev pub AtMostFinite : Type 0
 AtMostFinite = (b x : Float) → T (finite b) → AtMost b x → T (finite x)
@@ -109,9 +117,12 @@ WholeFinite = (n : ℕ) → n ≤ 2 ^ 53 → T (finite (real n))
 abbrev pub SubNumber : Type 0
 SubNumber = (f : Format) (x y : Float) → T (finite x) → T (finite y) → Number (sub f x y)
 
--- A value of the format does not fall where what is not negative is added.
+-- A value of the format does not fall where what is not negative is added, nor grow where what is not above 0 is.
 abbrev pub AddGrows : Type 0
 AddGrows = (f : Format) (x y : Float) → T (fits f x) → T (finite x) → T (finite y) → NotNegative y → T (le x (add f x y))
+
+abbrev pub AddFalls : Type 0
+AddFalls = (f : Format) (x y : Float) → T (fits f x) → T (finite x) → T (finite y) → T (le y zero⁺) → T (le (add f x y) x)
 
 -- A sum grows with both its parts.
 abbrev pub AddMonotone : Type 0

@@ -13,5 +13,6 @@ pub mod RootLaws
 pub mod WholeLaws
 pub mod CountLaws
 pub mod ExpLaws
+pub mod StepLaws
 pub mod LogLaws
 pub mod Figures

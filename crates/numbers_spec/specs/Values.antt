@@ -2,6 +2,7 @@
 use Prim.Native.Nat.{ℕ, suc, _+_, _-_, _*_, _^_, _≤_, _<_}
 use mathlib.Core.Bool.{Bool, Bool·beq, false, cond, not}
 use mathlib.Core.List.{List, [], _∷_}
+use mathlib.Core.Logic.{_⊎_}
 use lib.Dec.{T}
 use lib.Ieee.{Float, nan, inf, fin, Format, binary64, prec, emax, low, up, down, add, le, fits, isNan}
 use lib.Ieee.Exact.{HasValue}
@@ -62,6 +63,29 @@ pub record Between (l u x : Float) : Type 0 where
 -- The function g keeps the order. Where a NaN stands, `le` is false.
 abbrev pub Monotone : (Float → Float) → Type 0
 Monotone g = (x y : Float) → T (le x y) → T (le (g x) (g y))
+
+-- x lies on the stretch between a and b, whichever of the two is the lower.
+abbrev pub OnStretch : Float → Float → Float → Type 0
+OnStretch a b x = Between a b x ⊎ Between b a x
+
+-- ---- exact distances
+-- x is finite, and so a whole number of units of 2 ^ -1074.
+pub record InUnits (x : Float) : Type 0 where
+  pub sign : Bool
+  pub size : ℕ
+  pub is : Units binary64 x sign size
+
+-- x and y are at most n / d apart: exactly, with no rounding between. (2 ^ low units are 1.)
+pub record Near (n d : ℕ) (x y : Float) : Type 0 where
+  pub from : InUnits x
+  pub to : InUnits y
+  pub near : d * distance (from .sign) (from .size) (to .sign) (to .size) ≤ n * 2 ^ low binary64
+
+-- x lies at most n / d outside the stretch between a and b: so near to a place on it.
+pub record Beside (n d : ℕ) (a b x : Float) : Type 0 where
+  pub place : Float
+  pub on : OnStretch a b place
+  pub near : Near n d x place
 
 -- ---- bounds n * 2 ^ p
 -- |x| ≤ n * 2 ^ p
