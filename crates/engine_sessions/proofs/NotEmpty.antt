@@ -1,27 +1,31 @@
--- The guarantee is not empty: the session `ByAChain` is a list such as it speaks of, and locks. Assumes nothing.
+-- The guarantee is not empty: the session `ByAChain` is a list such as it speaks of, locks, coasts and moves its track. Assumes nothing.
 use Prim.Native.Nat.{ℕ, zero, suc, _≤_, _<_}
+use mathlib.Core.Bool.{true, not}
 use mathlib.Core.List.{List}
 use mathlib.Core.Path.{_≡_, refl, sym, ap, _∙_, subst}
 use native.Mathlib.Omega.{arith}
 use lib.Dec.{T, lit<}
 use lib.ListN.{length}
-use lib.Ieee.{Float, binary32, fits}
+use lib.IntN.{negsuc}
+use lib.Ieee.{Float, fin, binary32, fits}
 use Rattle.numbers_spec.specs.Rows.{Every, F32, every}
 use Rattle.engine_spec.specs.Cases.{isNone, interrupting, isComputed}
 use Rattle.engine_spec.specs.Windows.{Window}
 use Rattle.engine_spec.specs.Opening.{opening, openedSettings, matcherOfReference}
 use Rattle.engine_spec.specs.Lists.{Answered, remaining}
-use Rattle.engine_spec.specs.Chain.{passes, bestOffset, wholeAt, Passes, Unbroken, Latest, neighbouring, keeping, Chain}
+use Rattle.engine_spec.specs.Chain.{passes, bestOffset, wholeAt, Passes, Unbroken, Latest, neighbouring, keeping, Chain, placeAt}
+use Rattle.engine_spec.specs.Leap.{Supported, Shifted, Gentle}
 use Rattle.engine_spec.specs.Guarantee.{AllHanded, nothing, next, Handed}
 use Rattle.engine_spec.specs.declared.types.ClockMs.{ClockMs}
+use Rattle.engine_spec.specs.declared.types.Maybe.the-variants as maybe
 use Rattle.engine_spec.specs.declared.types.State.the-variants as state
 use Rattle.engine_spec.specs.declared.types.Answer.the-variants as answer
 use Rattle.engine_spec.proofs.Handed.{every-at}
 use Rattle.engine_spec.proofs.Openings.{opened-filled}
-use Rattle.engine_spec.proofs.Run.{guarantee}
+use Rattle.engine_spec.proofs.Run.{guarantee, cannot-leap}
 use Rattle.engine_sessions.specs.Computed.{submitNow}
 use Rattle.engine_sessions.specs.Session.{roomFor, submissions, replied, allReplied}
-use Rattle.engine_sessions.specs.NotEmpty.{left, answerAt, EndsLongChain, CoastsAt, Locks}
+use Rattle.engine_sessions.specs.NotEmpty.{left, answerAt, EndsLongChain, CoastsAt, MovesAt, Locks}
 use Rattle.engine_sessions.specs.ByAChain.{configuration, hop, reference, index, window1, window2, window3, window4, window5, window6, window7, window8, session}
 use Rattle.engine_sessions.proofs.ByAChain.{recorded}
 use Rattle.engine_sessions.proofs.Answers.{answers-recorded}
@@ -61,7 +65,7 @@ recordedLeft = remaining (allReplied (session .turns))
 left-is : left session ≡ recordedLeft
 left-is = ap remaining (answers-recorded session recorded)
 
-some-recorded : 4 < length recordedLeft
+some-recorded : 5 < length recordedLeft
 unfolding remaining isComputed allReplied replied
 some-recorded = lit< tt
 
@@ -115,10 +119,35 @@ coasts-recorded : CoastsAt hop recordedAt 4
 unfolding remaining isComputed allReplied replied isNone
 coasts-recorded = record { locked = refl; withheld = tt; coasting = record { before = 3; is = refl; locked = refl; place = refl } }
 
+-- ---- the sixth moves
+supported-recorded : Supported hop recordedAt 5
+unfolding remaining isComputed allReplied replied isNone
+supported-recorded = record { locked = refl; reasonless = tt }
+
+local-recorded : T (not (wholeAt hop recordedAt 5))
+unfolding remaining isComputed allReplied replied
+local-recorded = tt
+
+-- from -3,002.2 to -3,032.4
+shifts-recorded : (c : Shifted hop recordedAt 5) → c .old ≡ c .new → ⊥
+unfolding remaining isComputed allReplied replied
+shifts-recorded c h =
+    let before : c .before ≡ 4 = let i = c .is in omega arith in
+    let old : maybe.Is (fin true 3300933179821449 (negsuc 39)) ≡ maybe.Is (c .old) = subst (λ (k : ℕ). placeAt hop recordedAt k ≡ maybe.Is (c .old)) before (c .old-is) in
+    let new : maybe.Is (fin true 6668336725062373 (negsuc 40)) ≡ maybe.Is (c .new) = c .new-is in
+    let clash : _≡_ {A = ℕ} 3300933179821449 6668336725062373 = cc in
+    omega arith
+
+moves : 5 < length (left session) → MovesAt hop (answerAt (left session)) 5
+moves some =
+    let gentle : Gentle hop (answerAt (left session)) 5 = cannot-leap configuration hop reference (roomFor reference) reference-held opened (submissions (session .turns)) all-handed 5 some in
+    let carried = subst (λ (l : List Answered). Gentle hop (answerAt l) 5) left-is gentle .carried supported-recorded local-recorded in
+    subst (λ (l : List Answered). MovesAt hop (answerAt l) 5) (sym left-is) (record { supported = supported-recorded; local = local-recorded; carried = carried; shifts = shifts-recorded (carried .shifted) })
+
 pub locks : Locks session
 locks =
     let promised = guarantee configuration hop reference (roomFor reference) reference-held opened (submissions (session .turns)) all-handed in
-    let some : 4 < length (left session) = subst (λ (l : List Answered). 4 < length l) (sym left-is) some-recorded in
+    let some : 5 < length (left session) = subst (λ (l : List Answered). 5 < length l) (sym left-is) some-recorded in
     let locked : answerAt (left session) 3 .snapshot .state ≡ state.Locked = ap (λ (l : List Answered). answerAt l 3 .snapshot .state) left-is ∙ locked-recorded in
     record {
       held = reference-held;
@@ -131,4 +160,5 @@ locks =
       chain = promised .trusted 3 (omega arith) .locked locked;
       ends = subst (λ (l : List Answered). EndsLongChain hop (answerAt l) 3) (sym left-is) ends-recorded;
       coasts = subst (λ (l : List Answered). CoastsAt hop (answerAt l) 4) (sym left-is) coasts-recorded;
+      moves = moves some;
     }

@@ -1,4 +1,4 @@
--- The guarantee is not empty: a recorded session is a list such as it speaks of, locks by a chain of several answers, and coasts. Definitions only.
+-- The guarantee is not empty, nor is what is said of a place that moves: a recorded session is a list such as they speak of, locks by a chain of several answers, coasts, and moves its track. Definitions only.
 use Prim.Native.Nat.{ℕ, _<_}
 use mathlib.Core.Bool.{not}
 use mathlib.Core.List.{List}
@@ -11,6 +11,7 @@ use Rattle.engine_spec.specs.Cases.{isNone}
 use Rattle.engine_spec.specs.Opening.{opening, openedSettings, matcherOfReference}
 use Rattle.engine_spec.specs.Lists.{Answered, answersTo, remaining, unanswered}
 use Rattle.engine_spec.specs.Chain.{shownAt, wholeAt, Passes, Chain, OnChain, Coasting}
+use Rattle.engine_spec.specs.Leap.{Supported, Carried}
 use Rattle.engine_spec.specs.Guarantee.{AllHanded, Promised}
 use Rattle.engine_spec.specs.declared.types.State.the-variants as state
 use Rattle.engine_spec.specs.declared.types.Answer.the-variants as answer
@@ -39,6 +40,13 @@ pub record CoastsAt (hop : Float) (a : ℕ → Answered) (i : ℕ) : Type 0 wher
   pub withheld : T (not (isNone (shownAt hop a i .«withhold_reason»)))
   pub coasting : Coasting hop a i
 
+-- Answer i is supported without a whole search, so that it goes on from the one before it, and its place is another.
+pub record MovesAt (hop : Float) (a : ℕ → Answered) (i : ℕ) : Type 0 where
+  pub supported : Supported hop a i
+  pub local : T (not (wholeAt hop a i))
+  pub carried : Carried hop a i
+  pub shifts : carried .shifted .old ≡ carried .shifted .new → ⊥
+
 pub record Locks (s : Session) : Type 0 where
   -- opening is answered, the reference is one of f32, and so are the windows; the index is as opening filled it
   pub held : Every F32 (s .reference .values)
@@ -47,12 +55,14 @@ pub record Locks (s : Session) : Type 0 where
   -- so all is promised of the list,
   pub promised : Promised (s .hop) (engineOf s) (matcherOfReference (s .hop) (s .reference)) (submissions (s .turns))
   -- its third remaining answer is not Locked yet, its fourth is,
-  pub some : 4 < length (left s)
+  pub some : 5 < length (left s)
   pub locking : answerAt (left s) 2 .snapshot .state ≡ state.Locking
   pub locked : answerAt (left s) 3 .snapshot .state ≡ state.Locked
   -- and so it is on a chain,
   pub chain : OnChain (s .hop) (answerAt (left s)) 3
   -- which it ends, and which an earlier answer began;
   pub ends : EndsLongChain (s .hop) (answerAt (left s)) 3
-  -- the fifth coasts
+  -- the fifth coasts,
   pub coasts : CoastsAt (s .hop) (answerAt (left s)) 4
+  -- and the sixth moves
+  pub moves : MovesAt (s .hop) (answerAt (left s)) 5

@@ -20,7 +20,7 @@ use Rattle.engine_spec.specs.Thresholds.{coastMostMs, localMs, samePlace
 use Rattle.engine_spec.specs.Windows.{Window, indexed, query, endpointOf, evidence, _after_, samePlace}
 use Rattle.engine_spec.specs.Opening.{blankCandidate}
 use Rattle.engine_spec.specs.Tracking.{Tracked, tracked, followed, supports, mayCoast}
-use Rattle.engine_spec.specs.Locking.{Searched, searched, isDue, wholeSearched, passed, passing, confirms, firstEvidence, keptOrReplaced}
+use Rattle.engine_spec.specs.Locking.{Searched, searched, isDue, wholeSearched, locallySearched, passed, passing, confirms, firstEvidence, keptOrReplaced}
 use Rattle.engine_spec.specs.Publishing.{Decision, publish, estimateAt, offTrack, ready, unready, verdictOf, ambiguous, candidatesShown, candidateArray, comparableFrames, coverage}
 use Rattle.engine_spec.specs.Chain.{bestOffset, offsetShown}
 use Rattle.engine_spec.specs.Guarantee.{Shows}
@@ -41,7 +41,7 @@ use Rattle.engine_spec.specs.declared.types.State.the-variants as state
 use Rattle.engine_spec.specs.declared.types.WithholdReason.{WithholdReason}
 use Rattle.engine_spec.specs.declared.types.WithholdReason.the-variants as reason
 use Rattle.engine_spec.proofs.Tests.{cond-elim, not-or-l, not-or-r, not-not, T-is, not-T-is}
-use Rattle.engine_spec.proofs.Effects.{isHeld, Track, gone, set, kept, Ended, ended, FiniteTrack, Offsets, same, weak, pass, Effects, bestOf, Shown, TrackShown, off, on, View, Silence}
+use Rattle.engine_spec.proofs.Effects.{isHeld, Track, gone, set, kept, Ended, ended, FiniteTrack, Offsets, Pend, same, weak, pass, Effects, bestOf, Shown, TrackShown, off, on, View, Silence}
 
 -- ---- the track
 -- A local search leaves the old track, or one with this evidence,
@@ -105,31 +105,54 @@ replaced-place now best rest (kept {o = o} {f = f} {l = l} {c = c} u) t p =
 
 -- ---- the searches of one window
 module _ (m : Matcher) (hop : Float) (w : Window) (k : Reached) (l : Lock) (O : Offsets m (query w) (evidence hop w) (l .accepted)) where
+  -- for short
+  abbrev now : RecordedMs
+  now = evidence hop w
+
+  abbrev t : Tracked
+  t = tracked m (query w) now (l .accepted)
+
+  -- no chain ends: the track is as the local search left it
+  no-end : (x : Searched) → x .lock .accepted ≡ t .accepted → x .supported ≡ t .supported → (T (not (x .global)) → x .found ≡ t .found) → Pend m hop w k (l .pending) x (x .global) (x .found) false → Effects m hop w k l x
+  no-end x accepted supported local p = record {
+    lock = false;
+    track = rw (accepted, supported) (tracked-track false m (query w) now (l .accepted));
+    ended = λ e. absurd e;
+    near = t .found;
+    local = local;
+    moved = λ n u. rw accepted (O .moving (subst T supported u));
+    pend = p;
+  }
+
   -- a passing whole search: the end of a chain, or not
-  passed-effects : (b : Candidate) (rest : List Candidate) → b ∷ rest ≡ wholeSearch m (query w) → T (passing (b ∷ rest))
-      → Effects m hop w k l (passed hop (evidence hop w) (endpointOf w) k (firstEvidence (l .pending) (b .«offset_ms») (evidence hop w)) (tracked m (query w) (evidence hop w) (l .accepted)) b rest)
+  passed-effects : (b : Candidate) (rest : List Candidate) → b ∷ rest ≡ wholeSearch m (query w) → T (passing (b ∷ rest)) → Effects m hop w k l (passed hop now (endpointOf w) k (firstEvidence (l .pending) (b .«offset_ms») now) t b rest)
   unfolding passed
   passed-effects b rest q p =
-      let now = evidence hop w in
-      let t = tracked m (query w) (evidence hop w) (l .accepted) in
       let ends = confirms hop (firstEvidence (l .pending) (b .«offset_ms») now) now b in
       cond-elim (λ (x : Searched). Effects m hop w k l x) ends _ _
       (λ h. record {
         lock = true;
         track = replaced-track now b (tracked-track true m (query w) now (l .accepted));
         ended = λ _. replaced-place now b rest (tracked-track true m (query w) now (l .accepted)) (O .track-finite) (O .best-finite b rest q);
+        near = t .found;
+        local = λ g. absurd g;
+        moved = λ n. absurd n;
         pend = pass q p refl (sym (T-is ends h)) refl;
       })
-      (λ h. record { lock = false; track = tracked-track false m (query w) (evidence hop w) (l .accepted); ended = λ t. absurd t; pend = pass q p refl (sym (not-T-is ends h)) refl })
+      (λ h. no-end _ refl refl (λ g. absurd g) (pass q p refl (sym (not-T-is ends h)) refl))
 
   -- a whole search
-  whole-effects : (found : List Candidate) → found ≡ wholeSearch m (query w) → Effects m hop w k l (wholeSearched hop (evidence hop w) (endpointOf w) k (l .pending) (tracked m (query w) (evidence hop w) (l .accepted)) found)
+  whole-effects : (found : List Candidate) → found ≡ wholeSearch m (query w) → Effects m hop w k l (wholeSearched hop now (endpointOf w) k (l .pending) t found)
   unfolding wholeSearched passing
-  whole-effects [] q = record { lock = false; track = tracked-track false m (query w) (evidence hop w) (l .accepted); ended = λ t. absurd t; pend = weak q tt refl refl }
+  whole-effects [] q = no-end _ refl refl (λ g. absurd g) (weak q tt refl refl)
   whole-effects (b ∷ rest) q =
       cond-elim (λ (x : Searched). Effects m hop w k l x) (passing (b ∷ rest)) _ _
       (λ p. passed-effects b rest q p)
-      (λ p. record { lock = false; track = tracked-track false m (query w) (evidence hop w) (l .accepted); ended = λ t. absurd t; pend = weak q p refl refl })
+      (λ p. no-end _ refl refl (λ g. absurd g) (weak q p refl refl))
+
+  -- none
+  local-effects : Effects m hop w k l (locallySearched k l t)
+  local-effects = no-end (locallySearched k l t) refl refl (λ g. refl) (same refl refl)
 
 -- What the searches do, with a whole search or without.
 pub effects : (granted : Bool) (m : Matcher) (hop : Float) (w : Window) (k : Reached) (l : Lock) → Offsets m (query w) (evidence hop w) (l .accepted) → Effects m hop w k l (searched granted m hop w k l)
@@ -137,8 +160,7 @@ unfolding searched
 effects granted m hop w k l O =
     let t = tracked m (query w) (evidence hop w) (l .accepted) in
     cond-elim (λ (x : Searched). Effects m hop w k l x) (granted && isDue (t .supported) (endpointOf w) (l .«last_global_search_ms»)) _ _
-    (λ h. whole-effects m hop w k l O (wholeSearch m (query w)) refl)
-    (λ h. record { lock = false; track = tracked-track false m (query w) (evidence hop w) (l .accepted); ended = λ t. absurd t; pend = same refl refl })
+    (λ h. whole-effects m hop w k l O (wholeSearch m (query w)) refl) (λ h. local-effects m hop w k l O)
 
 -- ---- what is shown of a search
 -- The first of the array is the best of what was found.

@@ -16,7 +16,7 @@ use Rattle.matcher_spec.specs.Index.{Matcher}
 use Rattle.matcher_spec.specs.Search.{wholeSearch, localSearch}
 use Rattle.matcher_spec.specs.SoundSearch.{SoundResult}
 use Rattle.engine_spec.specs.Windows.{Window, indexed, query, endpointOf, evidence, _after_, samePlace}
-use Rattle.engine_spec.specs.Tracking.{mayCoast, tracked}
+use Rattle.engine_spec.specs.Tracking.{Tracked, mayCoast, tracked}
 use Rattle.engine_spec.specs.Locking.{Searched, passing, firstEvidence, startedOrCarried, heldOrDropped, confirms}
 use Rattle.engine_spec.specs.Publishing.{ofBest, offsetOf}
 use Rattle.engine_spec.specs.Chain.{bestOffset, offsetShown}
@@ -32,6 +32,7 @@ use Rattle.engine_spec.specs.declared.types.Maybe.the-variants as maybe
 use Rattle.engine_spec.specs.declared.types.Hypothesis.{Hypothesis}
 use Rattle.engine_spec.specs.declared.types.Hypothesis.the-variants as hypothesis
 use Rattle.engine_spec.specs.declared.types.State.the-variants as state
+use Rattle.engine_spec.proofs.MovedBound.{Step}
 
 -- ---- what is asked of a window that was not refused
 pub record Fair (s : Settings) (m : Matcher) (w : Window) : Type 0 where
@@ -53,10 +54,18 @@ abbrev pub FiniteTrack : Hypothesis → Type 0
 FiniteTrack hypothesis.Absent = Unit
 FiniteTrack (hypothesis.Held offset first last correlation) = T (finite offset)
 
--- The offsets that the end of a chain compares are finite: of the track after its local search, and of the best of a whole search.
+-- A track before and after it went toward the best of what was found.
+pub data Moved : Hypothesis → Hypothesis → List Candidate → Type 0 where
+  moved : {o o' : Float} {f l l' : RecordedMs} {c c' : Float} {b : Candidate} {rest : List Candidate} → Step o (b .«offset_ms») o' → Moved (hypothesis.Held o f l c) (hypothesis.Held o' f l' c') (b ∷ rest)
+
+abbrev pub Moving : Hypothesis → Tracked → Type 0
+Moving h t = T (t .supported) → Moved h (t .accepted) (t .found)
+
+-- The offsets that the end of a chain compares are finite: of the track after its local search, and of the best of a whole search. A track that a local search supports moves.
 pub record Offsets (m : Matcher) (query : Features) (now : RecordedMs) (track : Hypothesis) : Type 0 where
   pub track-finite : FiniteTrack (tracked m query now track .accepted)
   pub best-finite : (c : Candidate) (l : List Candidate) → c ∷ l ≡ wholeSearch m query → T (finite (c .«offset_ms»))
+  pub moving : Moving track (tracked m query now track)
 
 -- ---- what the searches do
 abbrev pub isHeld : Hypothesis → Bool
@@ -86,6 +95,10 @@ pub record Effects (m : Matcher) (hop : Float) (w : Window) (k : Reached) (l : L
   pub lock : Bool
   pub track : Track (evidence hop w) lock (l .accepted) (s .lock .accepted) (s .supported)
   pub ended : T lock → Ended (evidence hop w) (s .lock .accepted) (s .supported) (s .found)
+  -- what the local search found, which is shown without a whole search; but for the end of a chain a supported track moved toward it
+  pub near : List Candidate
+  pub local : T (not (s .global)) → s .found ≡ near
+  pub moved : T (not lock) → T (s .supported) → Moved (l .accepted) (s .lock .accepted) near
   pub pend : Pend m hop w k (l .pending) s (s .global) (s .found) lock
 
 -- ---- what a snapshot shows

@@ -1,5 +1,6 @@
 -- what one answer does, the chain, the state reached, the list; in the order of use
 pub mod Tests
+pub mod MovedBound
 pub mod Effects
 pub mod Answers
 pub mod Links
@@ -12,7 +13,6 @@ pub mod Following
 pub mod ShownCandidates
 pub mod Standing
 pub mod EvidenceBound
-pub mod MovedBound
 pub mod Validity
 pub mod Handed
 pub mod Openings

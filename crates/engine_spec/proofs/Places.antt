@@ -1,21 +1,24 @@
--- The place shown: at the end of a chain, while the track coasts, and before a lock. Assumes nothing.
+-- The place shown: at the end of a chain, while the track coasts, where it moves, and before a lock. Assumes nothing.
 use Prim.Native.Nat.{ℕ, suc}
 use mathlib.Core.Bool.{Bool, true, false, cond, not}
 use mathlib.Core.List.{List}
 use mathlib.Core.Logic.{inl, inr}
 use mathlib.Core.Path.{_≡_, refl, sym, ap, _∙_, subst}
-use lib.Dec.{T}
+use lib.Dec.{T, T-not, not-T, lit≤, lit<}
 use lib.Ieee.{Float, binary64, lt}
 use lib.Ieee.Scale.{finite}
 use Rattle.numbers_spec.specs.Arithmetic.{zero⁺, atLeast}
+use Rattle.numbers_spec.specs.Values.{Near}
 use Rattle.numbers_spec.proofs.Sums.{sub-self}
+use Rattle.numbers_spec.proofs.Distances.{near-wider, near-in-f64}
 use Rattle.matcher_spec.specs.declared.types.Candidate.{Candidate}
 use Rattle.engine_spec.specs.Cases.{isNone, isLocked, estimated}
 use Rattle.engine_spec.specs.Windows.{_after_}
 use Rattle.engine_spec.specs.Locking.{Searched}
 use Rattle.engine_spec.specs.Publishing.{offsetOf}
 use Rattle.engine_spec.specs.Lists.{Answered}
-use Rattle.engine_spec.specs.Chain.{bestOffset, offsetShown, shownAt, when, placeAt, Ending, Coasting, LockingAt, Placed}
+use Rattle.engine_spec.specs.Chain.{passes, bestOffset, offsetShown, shownAt, wholeAt, when, placeAt, EndsChain, Ending, Coasting, LockingAt, Placed}
+use Rattle.engine_spec.specs.Leap.{moveMost, outsideMost, Supported, Shifted, Carried, Gentle}
 use Rattle.engine_spec.specs.declared.types.RecordedMs.{RecordedMs}
 use Rattle.engine_spec.specs.declared.types.Maybe.{Maybe}
 use Rattle.engine_spec.specs.declared.types.Maybe.the-variants as maybe
@@ -25,7 +28,8 @@ use Rattle.engine_spec.specs.declared.types.Hypothesis.{Hypothesis}
 use Rattle.engine_spec.specs.declared.types.Hypothesis.the-variants as hypothesis
 use Rattle.engine_spec.specs.declared.types.State.{State}
 use Rattle.engine_spec.specs.declared.types.State.the-variants as state
-use Rattle.engine_spec.proofs.Effects.{isHeld, Track, gone, set, kept, Ended, ended, bestOf, TrackShown, off, on}
+use Rattle.engine_spec.proofs.Tests.{and-l}
+use Rattle.engine_spec.proofs.Effects.{isHeld, Moved, moved, Track, gone, set, kept, Ended, ended, bestOf, TrackShown, off, on}
 use Rattle.engine_spec.proofs.Pending.{Pending, running}
 
 -- ---- what one snapshot shows
@@ -86,6 +90,53 @@ module _ (hop : Float) (a : ℕ → Answered) where
   coasting-of n x old accepted supported e gone k (off t) h = absurd (not-locked (x .reached .confirmed) (sym (t .state) ∙ h))
   coasting-of n x old accepted supported e (set i u) k t h = absurd (subst T e tt)
   coasting-of n x old accepted supported e (kept c) (there {j = j} is locked place) (on t) h = record { before = j; is = is; locked = locked; place = t .place ∙ sym place }
+
+  -- ---- a step
+  -- A supported answer that ends no chain is on the track that it found, moved toward the best of its local search. (80 + 3 × 2^-47 is below 80.001.)
+  shifted-of : (n : ℕ) (x : Searched) (old accepted : Hypothesis) (near : List Candidate) → Moved old accepted near → Leads n old → TrackShown (shownAt hop a n) (when hop a n) x accepted → Shifted hop a n
+  shifted-of n x old accepted near (moved {o = o} {o' = o'} s) (there {j = j} is locked place) (on t) =
+      let most : Near moveMost 1000 o' o = near-wider _ _ moveMost 1000 o' o (lit< tt) (lit≤ tt) (s .moved) in
+      record {
+        before = j;
+        is = is;
+        locked = locked;
+        old = o;
+        new = o';
+        old-is = place;
+        new-is = t .place;
+        moved = most;
+        moved-in-f64 = near-in-f64 moveMost 1000 o' o (lit< tt) most;
+        moved-sharp = s .moved;
+      }
+
+  -- Without a whole search that best is shown. (2 × 2^-47 is below 0.001.)
+  carried-of : (n : ℕ) (x : Searched) (old accepted : Hypothesis) (near : List Candidate) → Moved old accepted near → Leads n old → TrackShown (shownAt hop a n) (when hop a n) x accepted
+      → bestOffset (shownAt hop a n .diagnostics) ≡ bestOf near → Carried hop a n
+  unfolding shifted-of
+  carried-of n x old accepted near (moved {o = o} {o' = o'} {b = b} s) (there is locked place) (on t) best =
+      let outside : Near outsideMost 1000 o' (s .beside .place) = near-wider _ _ outsideMost 1000 o' (s .beside .place) (lit< tt) (lit≤ tt) (s .beside .near) in
+      record {
+        shifted = shifted-of n x old accepted near (moved s) (there is locked place) (on t);
+        best = b .«offset_ms»;
+        best-is = best;
+        beside = record { place = s .beside .place; on = s .beside .on; near = outside };
+        beside-in-f64 = near-in-f64 outsideMost 1000 o' (s .beside .place) (lit< tt) outside;
+        beside-sharp = s .beside;
+      }
+
+  -- An answer that ends a chain made a whole search.
+  ends-whole : (n : ℕ) → EndsChain hop a n → T (wholeAt hop a n)
+  unfolding passes
+  ends-whole n c = and-l (wholeAt hop a n) _ (c .1 .last)
+
+  pub gentle-of : (n : ℕ) (x : Searched) (old accepted : Hypothesis) (near : List Candidate) (lock : Bool) → (T lock → EndsChain hop a n) → (T (not lock) → T (x .supported) → Moved old accepted near) → Leads n old
+      → TrackShown (shownAt hop a n) (when hop a n) x accepted → isNone (shownAt hop a n .«withhold_reason») ≡ x .supported → (T (not (wholeAt hop a n)) → bestOffset (shownAt hop a n .diagnostics) ≡ bestOf near) → Gentle hop a n
+  gentle-of n x old accepted near lock ends moves ld t reason best =
+      let goes : Supported hop a n → (EndsChain hop a n → ⊥) → Moved old accepted near = λ u f. moves (not-T lock (λ l. f (ends l))) (subst T reason (u .reasonless)) in
+      record {
+        carried = λ u w. carried-of n x old accepted near (goes u (λ c. T-not (wholeAt hop a n) w (ends-whole n c))) ld t (best w);
+        shifted = λ u f. shifted-of n x old accepted near (goes u f) ld t;
+      }
 
   -- ---- before a lock
   locking-of : (n : ℕ) (confirmed : Bool) (pending : Hypothesis) → Pending hop a (suc n) pending → shownAt hop a n .state ≡ cond confirmed state.Relocking state.Locking

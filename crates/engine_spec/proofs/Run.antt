@@ -1,4 +1,4 @@
--- The guarantee (specs/Guarantee.antt) and what is proved besides of every state reached (specs/Reached.antt): by induction along a list of submissions. Assumes nothing.
+-- The guarantee (specs/Guarantee.antt), what is proved besides of every state reached (specs/Guaranteed.antt), and that the place shown can't leap (specs/Leap.antt): by induction along a list of submissions. Assumes nothing.
 use Prim.Native.Nat.{ℕ, zero, suc, _+_, _<_}
 use mathlib.Core.Bool.{true, false}
 use mathlib.Core.List.{List, _∷_}
@@ -16,6 +16,7 @@ use Rattle.engine_spec.specs.Opening.{freshEngine, openedSettings, match
 use Rattle.engine_spec.specs.Submitting.{shownAgain, reread, computedFrom}
 use Rattle.engine_spec.specs.Guarantee.{AllHanded, Trusted, Promised, Guarantee}
 use Rattle.engine_spec.specs.Guaranteed.{NeverSeven, NeverConfirmed}
+use Rattle.engine_spec.specs.Leap.{Gentle, Gently, CannotLeap}
 use Rattle.engine_spec.specs.Lists.{Answered, answersTo, engineAfter, remaining, unanswered}
 use Rattle.engine_spec.specs.Cases.{isComputed, isRefused, unreachable}
 use Rattle.engine_spec.proofs.Standing.{Inv, start, Next, next}
@@ -50,6 +51,7 @@ grounds c hop reference x o =
 pub record Relied (s : Settings) (m : Matcher) (a : ℕ → Answered) (n : ℕ) : Type 0 where
   pub trusted : Trusted (s .«hop_ms») m a n
   pub usual : unreachable (a n .snapshot .state) ≡ false
+  pub gentle : Gentle (s .«hop_ms») a n
 
 module _ (s : Settings) (m : Matcher) (g : Grounds s m) (a : ℕ → Answered) where
   next-of : (n : ℕ) (e : Engine) (i : Submission) → Good s e → Inv s m a n e → New s m e i → a n ≡ answeredBy i (computedBy s m e i) → Next s m a n (computedBy s m e i .engine)
@@ -62,7 +64,7 @@ module _ (s : Settings) (m : Matcher) (g : Grounds s m) (a : ℕ → Answered) w
   along n e A (more {i = i} {A = B} good w rest) h inv k l =
       let here : a n ≡ answeredBy i (computedBy s m e i) = subst (λ (j : ℕ). a j ≡ answeredBy i (computedBy s m e i)) (plus-zero n) (h 0 (omega arith)) in
       let x : Next s m a n (computedBy s m e i .engine) = next-of n e i good inv w here in
-      go k l (record { trusted = x .trusted; usual = x .usual })
+      go k l (record { trusted = x .trusted; usual = x .usual; gentle = x .gentle })
       (λ p v. along (suc n) (computedBy s m e i .engine) B rest (λ j u. subst (λ (p : ℕ). a p ≡ getD B j unanswered) (plus-suc n j) (h (suc j) (omega arith))) (x .inv) p v)
     where
       plus-zero : (n : ℕ) → n + 0 ≡ n
@@ -164,3 +166,17 @@ never-confirmed c hop reference x held opened l h =
     let o : Opening c hop reference x = record { held = held; opened = opened } in
     subst (λ (e : Engine). UsualUnrefused (answersTo e l)) (sym (engine-is o))
     (never-unusual c (openedSettings hop reference) (matcherOfReference hop reference) (grounds c hop reference x o) (configuration-valid o) l h)
+
+-- ---- the place shown can't leap
+moves-gently : (c : Configuration) (s : Settings) (m : Matcher) → Grounds s m → validConfiguration c ≡ true → (l : List Submission) → AllHanded s m l → Gently (s .«hop_ms») (freshEngine c s) l
+unfolding freshEngine
+moves-gently c s m g v l h =
+    let e = freshEngine c s in
+    λ i u. relied c s m g (remaining (answersTo e l)) (trace s m e l (answersTo e l) (steps s m g e l (good-fresh c s m g v) h)) i u .gentle
+
+pub cannot-leap : CannotLeap
+cannot-leap c hop reference x held opened l h =
+    let o : Opening c hop reference x = record { held = held; opened = opened } in
+    let s = openedSettings hop reference in
+    subst (λ (e : Engine). Gently hop e l) (sym (engine-is o))
+    (subst (λ (t : Float). Gently t (freshEngine c s) l) (hop-is hop reference) (moves-gently c s (matcherOfReference hop reference) (grounds c hop reference x o) (configuration-valid o) l h))

@@ -22,6 +22,7 @@ use Rattle.engine_spec.specs.Publishing.{Decision, ready, unready, decid
 use Rattle.engine_spec.specs.Submitting.{lockFrom, computedFrom}
 use Rattle.engine_spec.specs.Chain.{windowAt, shownAt, wholeAt, Passes, jumpAt, EndsChain, Ending, Coasting, Placed}
 use Rattle.engine_spec.specs.Guarantee.{Shows, Trusted}
+use Rattle.engine_spec.specs.Leap.{Gentle}
 use Rattle.engine_spec.specs.Cases.{isNone, isThere, estimated, interrupting, unreachable}
 use Rattle.engine_spec.specs.declared.types.Reached.{Reached}
 use Rattle.engine_spec.specs.Milestones.{milestonesShown, reachedBy, stamp}
@@ -44,12 +45,12 @@ use Rattle.engine_spec.specs.declared.types.State.the-variants as state
 use Rattle.engine_spec.specs.declared.types.WithholdReason.{WithholdReason}
 use Rattle.engine_spec.specs.declared.types.WithholdReason.the-variants as reason
 use Rattle.engine_spec.proofs.Tests.{cond-elim, not-or-l, or-split, or-l, or-r, below-or, not-T-is}
-use Rattle.engine_spec.proofs.Effects.{Fair, Offsets, trim, isHeld, Pend, same, weak, pass, Effects, View, Silence}
+use Rattle.engine_spec.proofs.Effects.{Fair, Offsets, trim, isHeld, Pend, same, weak, pass, Effects, bestOf, View, Silence}
 use Rattle.engine_spec.proofs.Answers.{effects, viewed, silenced, shows-whole}
 use Rattle.engine_spec.proofs.Passing.{passes-is}
 use Rattle.engine_spec.proofs.Links.{open-down, Timely, timely-up}
 use Rattle.engine_spec.proofs.Pending.{NumberHalves, Pending, idle, running, Ready, none-open, going, pend-step}
-use Rattle.engine_spec.proofs.Places.{Leads, nowhere, leads-next, ending-of, coasting-of, placed-of}
+use Rattle.engine_spec.proofs.Places.{Leads, nowhere, leads-next, ending-of, coasting-of, gentle-of, placed-of}
 use Rattle.engine_spec.proofs.Stamps.{Marked, marked, or-false, final-after}
 use Rattle.engine_spec.proofs.Following.{Accepted, no-track, on-track, Tracked, no-more, still, track-step, Anew, LockedWell, locked-well}
 use Rattle.engine_spec.proofs.ShownCandidates.{apart-shown}
@@ -154,6 +155,7 @@ module _ (s : Settings) (m : Matcher) (a : ℕ → Answered) where
     locked : shownAt hop a n .state ≡ state.Locked → LockedWell hop a n
     ending : EndsChain hop a n → Ending hop a n
     coasting : shownAt hop a n .state ≡ state.Locked → T (not (isNone (shownAt hop a n .«withhold_reason»))) → Coasting hop a n
+    gentle : Gentle hop a n
     placed : (T (isHeld (d .lock .accepted)) → T (d .reached .«final_lock»)) → T (estimated (shownAt hop a n .estimate)) → Placed hop a n
     searched : T (wholeAt hop a n) → Shows hop (w n) (wholeSearch m (query (w n))) (shownAt hop a n)
     usual : (T (isHeld (d .lock .accepted)) → T (d .reached .«final_lock»)) → unreachable (shownAt hop a n .state) ≡ false
@@ -177,6 +179,10 @@ module _ (s : Settings) (m : Matcher) (a : ℕ → Answered) where
         locked = λ e. absurd (interrupting-not-locked (shownAt hop a n .state) (q .quiet) e);
         ending = λ c. absurd (np (c .1 .last));
         coasting = λ e _. absurd (interrupting-not-locked (shownAt hop a n .state) (q .quiet) e);
+        gentle = record {
+          carried = λ u _. absurd (interrupting-not-locked (shownAt hop a n .state) (q .quiet) (u .locked));
+          shifted = λ u _. absurd (interrupting-not-locked (shownAt hop a n .state) (q .quiet) (u .locked));
+        };
         placed = λ _ t. absurd (q .placeless t);
         searched = λ t. absurd (subst (λ (b : Bool). T b) (q .shown .whole) t);
         usual = λ _. q .usual;
@@ -205,6 +211,9 @@ module _ (s : Settings) (m : Matcher) (a : ℕ → Answered) where
             let final : T (se .reached .«final_lock») = subst T (sym (final-after m hop (w n) k (l .pending) se (se .global) (se .found) (x .lock) (x .pend))) (or-r (k .«final_lock») (x .lock) t) in
             ending-of hop a n se (se .lock .accepted) (se .supported) (se .found) (tm .evidence n (le-refl (suc n))) final (y .reason) (y .shown .best) (x .ended t) (y .track);
         coasting = λ e h. coasting-of hop a n se (l .accepted) (se .lock .accepted) (se .supported) (sym (y .reason) ∙ not-T-is (isNone (shownAt hop a n .«withhold_reason»)) h) (x .track) ld (y .track) e;
+        gentle =
+            gentle-of hop a n se (l .accepted) (se .lock .accepted) (x .near) (x .lock) (o .ends) (x .moved) ld (y .track) (y .reason)
+            (λ t. y .shown .best ∙ ap bestOf (x .local (subst (λ (b : Bool). T (not b)) (y .shown .whole) t)));
         placed = λ h t. placed-of hop a n se (se .lock .accepted) h (o .pending) (y .track) t;
         searched = λ t.
             let whole : T (se .global) = subst (λ (b : Bool). T b) (y .shown .whole) t in
@@ -255,6 +264,7 @@ module _ (s : Settings) (m : Matcher) (a : ℕ → Answered) where
     pub inv : Inv (suc n) e'
     pub trusted : Trusted (s .«hop_ms») m a n
     pub usual : unreachable (a n .snapshot .state) ≡ false
+    pub gentle : Gentle (s .«hop_ms») a n
 
   -- a track is accepted only where final is there
   held-final : (n : ℕ) (k : Reached) (d : Decision) (p : Hypothesis) → ((j : ℕ) → j < n → EndsChain hop a j → T (k .«final_lock»)) → (x : Made n k d) → Accepted hop a (suc n) p → T (isHeld p) → T (d .reached .«final_lock»)
@@ -315,6 +325,7 @@ module _ (s : Settings) (m : Matcher) (a : ℕ → Answered) where
           apart = λ t j k u v. apart-shown hop (w n) (wholeSearch m (query (w n))) (shownAt hop a n) (x .searched t) (whole-apart m (query (w n))) j k u v;
         };
         usual = x .usual final;
+        gentle = x .gentle;
       }
 
   abbrev decided : Engine → Window → Decision

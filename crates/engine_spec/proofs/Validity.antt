@@ -7,7 +7,8 @@ use native.Mathlib.Nat.{not-suc-le-zero}
 use lib.Dec.{T, lit≤, leb, le→leb}
 use lib.Count.{trailingZeros}
 use lib.ListN.{length}
-use lib.Ieee.{Float, inf, binary64, le, lt, eq, neg, add, sum, ofBits, ofFields, odd, round, units, size, span, climb}
+use lib.Ieee.{Float, inf, binary64, le, lt, eq, neg, add, sum, ofBits, ofFields, odd, round, units, size, span, climb, fits}
+use lib.Ieee.Fits.{add-fits}
 use lib.Ieee.Scale.{finite}
 use Rattle.numbers_spec.specs.Arithmetic.{_⊕_, _⊖_, zero⁺, atLeast, magnitude}
 use Rattle.numbers_spec.specs.Values.{AtMost}
@@ -23,7 +24,7 @@ use Rattle.engine_spec.specs.Windows.{Window, indexed, query, endpointOf
 use Rattle.engine_spec.specs.Refusals.{within, near, hopInRange, validConfiguration, validSettings, trackNumber, validHypothesis, validSearchTime, validLock, validMilestone, validMilestones, validEndpoint, validEstimate, validSnapshot, validLast, validEngine}
 use Rattle.engine_spec.specs.Opening.{noLock, freshEngine}
 use Rattle.engine_spec.specs.Readiness.{readiness}
-use Rattle.engine_spec.specs.Tracking.{Tracked, mayCoast, supports, followed, tracked}
+use Rattle.engine_spec.specs.Tracking.{Tracked, mayCoast, supports, movedOffset, followed, tracked}
 use Rattle.engine_spec.specs.Locking.{Searched, isDue, passing, firstEvidence, holds, heldOrDropped, confirms, keptOrReplaced, passed, notPassed, wholeSearched, searched}
 use Rattle.engine_spec.specs.Publishing.{Decision, offTrack, onTrack, verdictOf, decide, estimateAt, publish, offsetOf}
 use Rattle.engine_spec.specs.Submitting.{lockFrom, computedFrom}
@@ -47,18 +48,22 @@ use Rattle.engine_spec.specs.declared.types.Hypothesis.{Hypothesis}
 use Rattle.engine_spec.specs.declared.types.Hypothesis.the-variants as hypothesis
 use Rattle.engine_spec.specs.declared.types.WithholdReason.{WithholdReason}
 use Rattle.engine_spec.specs.declared.types.WithholdReason.the-variants as reason
-use Rattle.engine_spec.proofs.Effects.{Sound, FiniteTrack, Offsets}
+use Rattle.engine_spec.proofs.Effects.{Sound, FiniteTrack, moved, Moving, Offsets}
 use Rattle.engine_spec.proofs.Tests.{cond-elim, and-l, and-r, and-i, or-l, not-not, T-is}
 use Rattle.engine_spec.proofs.Answers.{kept-or-begun}
 use Rattle.engine_spec.proofs.EvidenceBound.{bounded, in-range, at-most-wider, farthest-finite, track-most-finite, evidence-bound}
-use Rattle.engine_spec.proofs.MovedBound.{foundMost, placeMost, moved-at-most, since-finite, since-not-negative}
+use Rattle.engine_spec.proofs.MovedBound.{foundMost, placeMost, Step, moved-toward, since-finite, since-not-negative}
 use Rattle.matcher_spec.specs.Limits.{candidatesMost, farthestMs, trackMost}
 
 -- ---- what is kept of a state
--- A place: its offset within 2^42, its other numbers within 10^13.
+-- A place: its offset an f64 within 2^42, its other numbers within 10^13.
+pub record Place (o : Float) : Type 0 where
+  pub most : AtMost placeMost o
+  pub held : T (fits binary64 o)
+
 pub data Bounded : Hypothesis → Type 0 where
   none : Bounded hypothesis.Absent
-  held : {o : Float} {f l : RecordedMs} {c : Float} → AtMost placeMost o → AtMost trackMost (f .0) → AtMost trackMost (l .0) → AtMost trackMost c → Bounded (hypothesis.Held o f l c)
+  held : {o : Float} {f l : RecordedMs} {c : Float} → Place o → AtMost trackMost (f .0) → AtMost trackMost (l .0) → AtMost trackMost c → Bounded (hypothesis.Held o f l c)
 
 pub record LockBounds (l : Lock) : Type 0 where
   pub pending : Bounded (l .pending)
@@ -85,7 +90,7 @@ place-valid : (h : Hypothesis) → Bounded h → T (validHypothesis h)
 unfolding validHypothesis
 place-valid hypothesis.Absent none = tt
 place-valid (hypothesis.Held o f l c) (held O F L C) =
-    and-i (trackNumber o) _ (within-T trackMost o (at-most-wider placeMost trackMost o place-track O))
+    and-i (trackNumber o) _ (within-T trackMost o (at-most-wider placeMost trackMost o place-track (O .most)))
     (and-i (trackNumber (f .0)) _ (within-T trackMost (f .0) F) (and-i (trackNumber (l .0)) (trackNumber c) (within-T trackMost (l .0) L) (within-T trackMost c C)))
 
 lock-valid : (l : Lock) → LockBounds l → T (validLock l)
@@ -122,13 +127,14 @@ safe-fresh c s v h = record { configuration = v; settings = h; lock = no-lock; m
 -- ---- what a search finds
 record Best (c : Candidate) : Type 0 where
   offset : AtMost foundMost (c .«offset_ms»)
+  held : T (fits binary64 (c .«offset_ms»))
   score : AtMost trackMost (c .score)
 
 best-of : (c : Candidate) (l : List Candidate) → SoundResult (c ∷ l) → Best c
-best-of c l r = record { offset = within-at-most 1 41 (c .«offset_ms») (r .sound 0 (omega arith) .offset); score = r .modest 0 (omega arith) .score .at-most }
+best-of c l r = let x = r .sound 0 (omega arith) in record { offset = within-at-most 1 41 (c .«offset_ms») (x .offset); held = x .held; score = r .modest 0 (omega arith) .score .at-most }
 
-best-place : (c : Candidate) → Best c → AtMost placeMost (c .«offset_ms»)
-best-place c b = at-most-wider foundMost placeMost (c .«offset_ms») (unfold le lt eq in tt) (b .offset)
+best-place : (c : Candidate) → Best c → Place (c .«offset_ms»)
+best-place c b = record { most = at-most-wider foundMost placeMost (c .«offset_ms») (unfold le lt eq in tt) (b .offset); held = b .held }
 
 -- ---- the searches of one window, whose evidence time is in range
 record TrackedWell (t : Tracked) : Type 0 where
@@ -155,8 +161,8 @@ since-bound : T (finite (trackMost ⊕ trackMost))
 unfolding add sum round units size span climb ofBits ofFields odd trailingZeros
 since-bound = tt
 
-place-finite : (x : Float) → AtMost placeMost x → T (finite x)
-place-finite x h = at-most-finite placeMost x tt h
+place-finite : (x : Float) → Place x → T (finite x)
+place-finite x h = at-most-finite placeMost x tt (h .most)
 
 track-finite : (h : Hypothesis) → Bounded h → FiniteTrack h
 track-finite hypothesis.Absent h = tt
@@ -167,8 +173,8 @@ innovation-bound : T (finite (foundMost ⊕ placeMost))
 unfolding add sum round units size span climb odd trailingZeros
 innovation-bound = tt
 
-innovation-finite : (best offset : Float) → AtMost foundMost best → AtMost placeMost offset → T (finite (best ⊖ offset))
-innovation-finite best offset B O = at-most-finite (foundMost ⊕ placeMost) (best ⊖ offset) innovation-bound (sub-at-most binary64 best offset foundMost placeMost tt tt B O)
+innovation-finite : (best offset : Float) → AtMost foundMost best → Place offset → T (finite (best ⊖ offset))
+innovation-finite best offset B O = at-most-finite (foundMost ⊕ placeMost) (best ⊖ offset) innovation-bound (sub-at-most binary64 best offset foundMost placeMost tt tt B (O .most))
 
 -- and the time between two evidence times.
 pub after-finite : (now last : RecordedMs) → AtMost trackMost (now .0) → AtMost trackMost (last .0) → T (finite (now after last))
@@ -182,20 +188,31 @@ module _ (now : RecordedMs) (N : AtMost trackMost (now .0)) where
   begun : (c : Candidate) → Best c → Bounded (hypothesis.Held (c .«offset_ms») now now (c .score))
   begun c b = held (best-place c b) N N (b .score)
 
-  -- A local search moves the track, or leaves it.
+  -- A local search moves the track toward the best of what it found, or leaves it.
+  moved-step : (o : Float) (l : RecordedMs) (best : Candidate) → Place o → AtMost trackMost (l .0) → Best best → T (supports o best) → Step o (best .«offset_ms») (movedOffset o best (atLeast zero⁺ (now after l)))
+  moved-step o l best O L b t =
+      moved-toward best o (atLeast zero⁺ (now after l)) (b .offset) (b .held) (O .most) (O .held) (supports-place o best t) (since-finite (now after l) (after-finite now l N L)) (since-not-negative (now after l))
+
+  moved-place : (o : Float) (l : RecordedMs) (best : Candidate) → Place o → AtMost trackMost (l .0) → Best best → T (supports o best) → Place (movedOffset o best (atLeast zero⁺ (now after l)))
+  moved-place o l best O L b t = record { most = moved-step o l best O L b t .stays 41 (O .most) (b .offset); held = unfold movedOffset in add-fits binary64 o _ }
+
   followed-well : (o : Float) (f l : RecordedMs) (c : Float) → Bounded (hypothesis.Held o f l c) → (found : List Candidate) → SoundResult found → TrackedWell (followed o f l c now found)
   unfolding followed
   followed-well o f l c h [] r = record { accepted = h; found = r; innovation = tt }
   followed-well o f l c (held O F L C) (best ∷ rest) r =
+      let b = best-of best rest r in
       cond-elim TrackedWell (supports o best) _ _
-      (λ t. record {
-        accepted = held
-            (moved-at-most best o (atLeast zero⁺ (now after l)) (best-of best rest r .offset) (place-finite o O) (supports-place o best t) (since-finite (now after l) (after-finite now l N L)) (since-not-negative (now after l)))
-            F N (best-of best rest r .score);
-        found = r;
-        innovation = innovation-finite (best .«offset_ms») o (best-of best rest r .offset) O;
-      })
+      (λ t. record { accepted = held (moved-place o l best O L b t) F N (b .score); found = r; innovation = innovation-finite (best .«offset_ms») o (b .offset) O })
       (λ t. record { accepted = held O F L C; found = r; innovation = tt })
+
+  followed-moved : (o : Float) (f l : RecordedMs) (c : Float) → Bounded (hypothesis.Held o f l c) → (found : List Candidate) → SoundResult found → Moving (hypothesis.Held o f l c) (followed o f l c now found)
+  unfolding followed
+  followed-moved o f l c h [] r = λ u. absurd u
+  followed-moved o f l c (held O F L C) (best ∷ rest) r =
+      let b = best-of best rest r in
+      cond-elim (Moving (hypothesis.Held o f l c)) (supports o best) _ _
+      (λ t _. moved (moved-step o l best O L b t))
+      (λ t u. absurd u)
 
   -- Pending's first evidence, carried on or begun.
   first-bound : (p : Hypothesis) (offset : Float) → Bounded p → AtMost trackMost (firstEvidence p offset now .0)
@@ -226,6 +243,12 @@ module _ (m : Matcher) (hop : Float) (w : Window) (N : AtMost trackMost (evidenc
       cond-elim TrackedWell (mayCoast (evidence hop w) l) _ _
       (λ t. followed-well (evidence hop w) N o f l c h _ (r _ _))
       (λ t. record { accepted = none; found = nothing-found; innovation = tt })
+
+  tracked-moved : (h : Hypothesis) → Bounded h → ((lower upper : Float) → SoundResult (localSearch (m .reference) (m .fine) (query w) lower upper)) → Moving h (tracked m (query w) (evidence hop w) h)
+  unfolding tracked
+  tracked-moved hypothesis.Absent h r = λ u. absurd u
+  tracked-moved (hypothesis.Held o f l c) h r =
+      cond-elim (Moving (hypothesis.Held o f l c)) (mayCoast (evidence hop w) l) _ _ (λ t. followed-moved (evidence hop w) N o f l c h _ (r _ _)) (λ t u. absurd u)
 
   passed-well : (k : Reached) (first : RecordedMs) (t : Tracked) (best : Candidate) (rest : List Candidate) → AtMost trackMost (first .0) → TrackedWell t → SoundResult (best ∷ rest) → SearchedWell (passed hop (evidence hop w) (endpointOf w) k first t best rest)
   unfolding passed
@@ -264,7 +287,7 @@ pub data Offset : Maybe → Type 0 where
 
 offset-of : (h : Hypothesis) → Bounded h → Offset (offsetOf h)
 offset-of hypothesis.Absent h = none
-offset-of (hypothesis.Held o f l c) (held O F L C) = shown O
+offset-of (hypothesis.Held o f l c) (held O F L C) = shown (O .most)
 
 -- The numbers of a verdict; the coast is at most what a track may coast.
 pub record VerdictWell (v : Verdict) : Type 0 where
@@ -297,7 +320,7 @@ unfolding verdictOf
 verdict-well hypothesis.Absent now x h y = off-track x y
 verdict-well (hypothesis.Held o f l c) now x (held O F L C) y =
     cond-elim VerdictWell (mayCoast now l) (onTrack x o (now after l)) (offTrack x)
-    (λ t. record { offset = shown O; innovation = y .innovation; coast = coast-most (now after l) t }) (λ t. off-track x y)
+    (λ t. record { offset = shown (O .most); innovation = y .innovation; coast = coast-most (now after l) t }) (λ t. off-track x y)
 
 pub record DecisionWell (d : Decision) : Type 0 where
   pub lock : LockBounds (d .lock)
@@ -402,9 +425,10 @@ module _ (s : Settings) (m : Matcher) (e : Engine) (i : Submission) (k : Safe e)
   pub safe-next : T (finite (i .clock .0)) → let d = decide true (e .configuration) s m (i .window) (reachedBy (e .milestones)) (lockFrom e (i .window)) in Safe (computedFrom e (i .window) (i .clock) d .engine)
   safe-next c = computed-safe e w (i .clock) _ k near-end c decision-well
 
-  -- The offsets that the end of a chain compares are finite.
+  -- The offsets that the end of a chain compares are finite, and a supported track moves toward what was found.
   pub offsets-finite : T (indexed s) → Offsets m (query (i .window)) (evidence (s .«hop_ms») (i .window)) (lockFrom e (i .window) .accepted)
   offsets-finite x = record {
     track-finite = track-finite _ (tracked-well m (s .«hop_ms») w evidence-most near-end (lockFrom e w .accepted) (lock-from e w k .accepted) (sound .near x) .accepted);
     best-finite = λ c l f. at-most-finite foundMost (c .«offset_ms») tt (best-of c l (subst SoundResult (sym f) (sound .whole x)) .offset);
+    moving = tracked-moved m (s .«hop_ms») w evidence-most near-end (lockFrom e w .accepted) (lock-from e w k .accepted) (sound .near x);
   }

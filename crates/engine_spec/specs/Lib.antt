@@ -14,6 +14,7 @@ pub mod Lists
 pub mod Chain
 pub mod Guarantee
 pub mod Guaranteed
+pub mod Leap
 pub mod Finite
 pub mod Figures
 pub mod Constants

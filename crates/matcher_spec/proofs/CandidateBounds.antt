@@ -11,6 +11,7 @@ use borrow.Author.Tests.{ltb-true}
 use lib.Pow.{pow-mono}
 use lib.Count.{trailingZeros}
 use lib.Ieee.{Float, nan, inf, fin, binary64, neg, div, lt, eq, le, ofBits, ofFields, round, units, size, span, climb, odd, toUnsigned, isNan}
+use lib.Ieee.Fits.{sub-fits}
 use lib.Ieee.Positive.{positive, positive-finite}
 use lib.Ieee.Scale.{finite}
 use Rattle.numbers_spec.specs.Arithmetic.{_⊕_, _⊖_, _⊗_, _⊘_, zero⁺, one, two, real, countOf, magnitude}
@@ -194,6 +195,7 @@ candidate-of-sound x n count values query start C some τ low scores s h S =
     let part = score-part-within (x .bands) n count values query C (low + peak) in
     record {
       offset = offset-within x start τ (low + peak) (fraction scores peak) (omega arith) (fraction-at-most scores S peak);
+      held = sub-fits binary64 (x .«start_ms» ⊕ (real (low + peak) ⊕ fraction scores peak) ⊗ x .«hop_ms») start;
       score = S peak inside;
       first-half = part 0 (count / 2) (omega arith) (omega arith) (omega arith);
       second-half = part (count / 2) count (omega arith) (omega arith) (omega arith);

@@ -1,8 +1,9 @@
 -- The numbers of a candidate are no NaN and lie within 10 ^ 13, where the reference and the query are as specs/ScoreBounds.antt bounds them. Definitions only.
 use Prim.Native.Nat.{ℕ, suc, _+_, _≤_, _<_}
 use mathlib.Core.List.{List}
+use lib.Dec.{T}
 use lib.ListN.{length}
-use lib.Ieee.{Float}
+use lib.Ieee.{Float, binary64, fits}
 use Rattle.numbers_spec.specs.Logarithm.{half}
 use Rattle.numbers_spec.specs.Values.{Number, AtMost, Between, Within}
 use Rattle.matcher_spec.specs.Energy.{withEnergies}
@@ -30,9 +31,10 @@ abbrev pub FractionAtMost : Type 0
 FractionAtMost = (scores : List Float) → Every (Within 1 40) scores → (peak : ℕ) → AtMost half (fraction scores peak)
 
 -- ---- candidates
--- The scores are within ±2 ^ 40, about 1.1 * 10 ^ 12, and the offset is within ±2 ^ 41, about 2.2 * 10 ^ 12: all are finite.
+-- The scores are within ±2 ^ 40, about 1.1 * 10 ^ 12, and the offset, an f64, is within ±2 ^ 41, about 2.2 * 10 ^ 12: all are finite.
 pub record SoundCandidate (c : Candidate) : Type 0 where
   pub offset : Within 1 41 (c .«offset_ms»)
+  pub held : T (fits binary64 (c .«offset_ms»))
   pub score : Within 1 40 (c .score)
   pub first-half : Within 1 40 (c .«first_half_score»)
   pub second-half : Within 1 40 (c .«second_half_score»)
