@@ -2,6 +2,7 @@
 
 mod compare;
 mod engine;
+mod exact;
 mod family;
 mod matcher;
 mod numbers;

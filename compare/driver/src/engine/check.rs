@@ -2,11 +2,14 @@
 
 use super::both::{Both, Opened};
 use super::kinds::{Counts, Kind};
+use super::ours::COMPUTED;
+use super::places::Steps;
 use super::readable;
 use super::session::Session;
 use super::theirs::Seen;
 use super::{altered, generate, made, refusals};
 use crate::compare::Effort;
+use sonalign::types::Snapshot;
 use std::sync::atomic::{AtomicU64, Ordering::Relaxed};
 
 const PRINTED: u64 = 20;
@@ -15,6 +18,7 @@ pub const QUICK_SESSIONS: u64 = 6_144;
 
 struct Tally {
     counts: Counts,
+    steps: Steps,
     submissions: AtomicU64,
     differences: AtomicU64,
 }
@@ -33,6 +37,7 @@ fn sessions(effort: Effort) -> bool {
     let count = effort.pick(QUICK_SESSIONS, 49_152);
     let tally = Tally {
         counts: Counts::new(),
+        steps: Steps::new(),
         submissions: AtomicU64::new(0),
         differences: AtomicU64::new(0),
     };
@@ -46,7 +51,7 @@ fn sessions(effort: Effort) -> bool {
     println!(
         "engine        {count} sessions, {submissions} submissions, {differences} differences"
     );
-    let reached = tally.counts.told();
+    let reached = tally.counts.told() & tally.steps.told();
     differences == 0 && reached && submissions > 0
 }
 
@@ -70,10 +75,18 @@ fn compare(number: u64, session: &Session, tally: &Tally) {
     if !both.theirs.is_indexed() {
         tally.counts.add(Kind::OpenedWithoutIndex);
     }
+    let mut computed: Option<Snapshot> = None;
     for (at, submission) in session.submissions.iter().enumerate() {
-        match both.submit(submission) {
-            Ok(seen) => tally.counts.note(&seen),
+        let seen = match both.submit(submission) {
+            Ok(seen) => seen,
             Err(what) => return differs(at + 1, &what),
+        };
+        tally.counts.note(&seen);
+        if let Err(what) = tally.steps.note(computed.as_ref(), &seen) {
+            differs(at + 1, &what);
+        }
+        if seen.code == COMPUTED {
+            computed = seen.snapshot;
         }
         tally.submissions.fetch_add(1, Relaxed);
     }

@@ -175,6 +175,23 @@ pub fn of(seen: &Seen) -> Vec<Kind> {
     kinds.0
 }
 
+/// Whether the answer shows a whole search that passes.
+fn passes(snapshot: &Snapshot) -> bool {
+    let spectral = &snapshot.diagnostics.spectral;
+    let halves = spectral
+        .first_half_correlation
+        .min(spectral.second_half_correlation);
+    let strong = spectral.correlation >= 0.25 && snapshot.diagnostics.dense_margin >= 0.06;
+    spectral.global_search && strong && halves >= 0.10
+}
+
+/// Whether it ends a chain.
+pub fn ends_chain(hop: f64, snapshot: &Snapshot) -> bool {
+    let spectral = &snapshot.diagnostics.spectral;
+    let long = spectral.fresh_evidence_ms >= 1_000.0 - hop;
+    passes(snapshot) && long && spectral.recent_correlation >= 0.15
+}
+
 /// Endpoint less the rounded 250 / hop frames that centring trims.
 pub fn evidence(seen: &Seen) -> f64 {
     let hop = seen.settings.hop;
@@ -450,27 +467,17 @@ impl<'a> Step<'a> {
             before.last_global_search_ms = f64::NEG_INFINITY;
         }
         let diagnostics = &snapshot.diagnostics;
-        let spectral = &diagnostics.spectral;
-        let whole = spectral.global_search;
-        let margin = diagnostics.dense_margin;
-        let halves = spectral
-            .first_half_correlation
-            .min(spectral.second_half_correlation);
-        let passes = whole && spectral.correlation >= 0.25 && margin >= 0.06 && halves >= 0.10;
-        let fresh = spectral.fresh_evidence_ms;
         let endpoint = seen.window.times.last().copied().unwrap_or(f64::NAN);
         Self {
             snapshot,
             after: &seen.after,
             jump,
             evidence: evidence(seen),
-            whole,
+            whole: diagnostics.spectral.global_search,
             best: diagnostics.candidates.first().map(|best| best.offset_ms),
-            margin,
-            passes,
-            chain_end: passes
-                && fresh >= 1_000.0 - seen.settings.hop
-                && spectral.recent_correlation >= 0.15,
+            margin: diagnostics.dense_margin,
+            passes: passes(snapshot),
+            chain_end: ends_chain(seen.settings.hop, snapshot),
             supported: diagnostics.track_innovation_ms.is_some(),
             since_search: endpoint - before.last_global_search_ms,
             before,

@@ -12,6 +12,7 @@ mod made;
 #[cfg(feature = "mutants")]
 pub mod mutants;
 mod ours;
+mod places;
 mod readable;
 mod reading;
 mod refusals;
