@@ -13,6 +13,7 @@
 //      no more.
 //   3. kistovab_submit for each window, in the order heard. Then read the snapshot.
 //   4. kistovab_support_age, at any time, for how long the lock has been without support.
+// A bench makes up references and windows with kistovab_fill_load: the same numbers in any language.
 //
 // What is kept
 //   - All that lasts from call to call lies in the caller's buffers: the index and the state.
@@ -52,9 +53,9 @@ typedef char kistovab_size_t_has_8_bytes[sizeof(size_t) == 8 ? 1 : -1];
 
 #define KISTOVAB_HOP_LEAST 1.0     // ms
 #define KISTOVAB_HOP_MOST 1000.0   // ms
-#define KISTOVAB_FRAMES_MOST 65535 // of a reference
+#define KISTOVAB_FRAMES_MOST 65535 // of a reference, or a load
 #define KISTOVAB_WINDOW_MOST 1024  // frames of a window
-#define KISTOVAB_BANDS_MOST 64     // of either
+#define KISTOVAB_BANDS_MOST 64     // of any of them
 #define KISTOVAB_FARTHEST_MS 1e12  // no time lies further from 0
 #define KISTOVAB_CANDIDATES_MOST 8 // of a snapshot
 
@@ -105,19 +106,20 @@ size_t kistovab_work64_length(size_t frames, size_t bands, size_t reference_fram
 
 // What every call but the lengths answers. A refusal writes nothing: all buffers are as they were,
 // and the next call goes on from there. Of several faults the first tested is told: 255, then in the
-// order of their numbers, but that a submission tests 7 before 6.
+// order of their numbers, but that a submission tests 7 before 6, and a load 16 before all else.
 enum kistovab_code {
-    // Opened; a snapshot was computed; there is an age.
+    // Opened; a snapshot was computed; there is an age; a load was filled.
     KISTOVAB_OK = 0,
 
-    // -- refusals of opening: mend what was handed in, and open again
+    // -- refusals of opening, 2 to 4 of a load too: mend what was handed in, and call again
     // A duration that is not above 0, an energy that is not finite, a fraction not from 0 to 1.
     KISTOVAB_INVALID_CONFIGURATION = 1,
     // The hop is not from 1 to 1,000 ms.
     KISTOVAB_HOP_OUT_OF_RANGE = 2,
-    // Too many frames or bands: take a larger hop, fewer bands, or parts of the film.
+    // More than 65,535 frames or 64 bands. Of a film take a larger hop, fewer bands, or parts; of a
+    // load ask for less.
     KISTOVAB_REFERENCE_TOO_LARGE = 3,
-    // There are not bands * times_len values.
+    // There are not bands * times_len values; of a load also: not times_len energies.
     KISTOVAB_REFERENCE_MISCOUNTED = 4,
     // A finite time beyond 10^12 ms from 0: count from nearer.
     KISTOVAB_REFERENCE_TIME_TOO_FAR = 5,
@@ -143,6 +145,10 @@ enum kistovab_code {
     // A working buffer is shorter than its length call says: lend more.
     KISTOVAB_WORK_TOO_SHORT = 13,
 
+    // -- refusal of a load
+    // The seed is 0, from which nothing but 0 would be drawn: take any other.
+    KISTOVAB_SEED_ZERO = 16,
+
     // -- no fault
     // A submission with less than 90 ms of new sound: the snapshot is the last one, with its place
     // moved on, and the state is as it was.
@@ -150,7 +156,8 @@ enum kistovab_code {
     // There is no age: the last computed snapshot was not Locked, or there is none.
     KISTOVAB_NO_AGE = 101,
 
-    // -- any call: a state or a snapshot has too few words; lend as many as the length calls say
+    // -- any call but a load: a state or a snapshot has too few words; lend as many as the length
+    // calls say
     KISTOVAB_WORDS_TOO_SHORT = 255
 };
 
@@ -231,6 +238,43 @@ uint32_t kistovab_submit(
 // The coast of the last computed snapshot, in ms, from 0 to 1,500: answers 0 and writes `age`, or
 // answers 101, 7 or 255 and does not. Only windows age it: while a unit submits none, it stays.
 uint32_t kistovab_support_age(const uint64_t *state, size_t state_len, double *age);
+
+// ---- a load for a bench
+
+// Fills a reference or a window with sound made up from a seed, so that benches in any language hold
+// the same numbers: the call is proved to fill what is told here, and a bench that does not call it
+// can make the same from this. Answers 0, 16, 2, 3 or 4.
+//
+//   - There are times_len frames. The time of frame i, from 0 on, is i * hop_ms: one product of
+//     doubles, rounded once, and no sum of hops. Every energy is -20.
+//   - The values are drawn from x, an unsigned number of 64 bits that begins as the seed (Marsaglia's
+//     xorshift). Each draw is three steps, of which each loses the bits that it shifts out:
+//         x ^= x << 13;  x ^= x >> 7;  x ^= x << 17;
+//     The number drawn is x after them: the first is not the seed itself. It gives one value,
+//     (x mod 4096) / 256, from 0 to 15.99609375, which a float holds without rounding. The first draw
+//     gives values[0], the next values[1]: band after band, in each its frames in order.
+//
+//   seed               numbers drawn                               values
+//   1                  1082269761, 1152992998833853505,            0.25390625, 4.25390625,
+//                      11177516664432764457, 17678023832001937445  6.16015625, 0.14453125
+//   88172645463325252  8748534153485358512, 3040900993826735515,   5.6875, 5.60546875,
+//                      3453997556048239312                         10.8125
+//
+// A load of 2 frames or more and a band or more is a reference that opens with an index, at the same
+// hop. One of 1 to 1,024 frames and 1 to 64 bands is a window that a submission does not refuse for
+// itself (9 to 12); its times begin at 0, so add to them for windows to follow.
+uint32_t kistovab_fill_load(
+    // Any but 0.
+    uint64_t seed,
+    // From frame to frame, from 1 to 1,000 ms.
+    double hop_ms,
+    // At most 64, and at most 65,535 frames; either may be 0.
+    size_t bands,
+    // The load, written as a whole: as many energies as times, and bands * times_len values. A longer
+    // buffer is refused as a shorter one is.
+    double *times, size_t times_len,
+    double *energies, size_t energies_len,
+    float *values, size_t values_len);
 
 // ---- the snapshot
 

@@ -49,7 +49,7 @@ struct buffer {
 
 static struct buffer buffers[BUFFERS] = {
     [TIMES] = {.name = "times", .size = 8, .most = TIMES_MOST},
-    [ENERGIES] = {.name = "energies", .size = 8, .most = TIMES_MOST},
+    [ENERGIES] = {.name = "energies", .size = 8, .most = TIMES_MOST + TAIL_MOST},
     [VALUES] = {.name = "values", .size = 4, .most = VALUES_MOST + TAIL_MOST},
     [FINE] = {.name = "fine", .size = 4, .most = ROOM(KISTOVAB_FRAMES_MOST)},
     [COARSE] = {.name = "coarse", .size = 4, .most = ROOM(KISTOVAB_FRAMES_MOST / 4)},

@@ -62,6 +62,8 @@ static bool is_documented(enum call call, uint32_t code)
         return code <= 6 || code == 255;
     case SUBMIT:
         return code == 0 || (code >= 6 && code <= 13) || code == 100 || code == 255;
+    case FILL_LOAD:
+        return code == 0 || (code >= 2 && code <= 4) || code == 16;
     default:
         return code == 0 || code == 7 || code == 101 || code == 255;
     }
@@ -362,6 +364,75 @@ uint32_t age_twice(const struct engine *engine, size_t state_len, double *age)
         }
     }
     end_call(SUPPORT_AGE, codes);
+    return codes[0];
+}
+
+// ---- a load
+
+static uint32_t call_fill(const struct run *run, const struct load *l)
+{
+    begin_lending();
+    lend_to_write(run, TIMES, NULL, 0, l->times_len);
+    lend_to_write(run, ENERGIES, NULL, 0, l->energies_len);
+    lend_to_write(run, VALUES, NULL, 0, l->values_len);
+    return kistovab_fill_load(l->seed, l->hop, l->bands, lent(TIMES), l->times_len, lent(ENERGIES),
+                              l->energies_len, lent(VALUES), l->values_len);
+}
+
+static void check_filled(uint32_t code)
+{
+    for (int i = TIMES; i <= VALUES; i++) {
+        take_back(i);
+        if (code != KISTOVAB_OK) {
+            must_keep(i, 0, "the load is refused");
+        }
+    }
+}
+
+static void keep_row(enum buffer_name name, void *to)
+{
+    must_be_defined(name, lent_count(name));
+    if (lent_count(name) > 0) {
+        memcpy(to, lent(name), lent_count(name) * element_size(name));
+    }
+}
+
+static void count_filled(const struct load *l)
+{
+    bool frames = l->times_len == KISTOVAB_FRAMES_MOST, bands = l->bands == KISTOVAB_BANDS_MOST;
+    count_limit(LOAD_OF_NO_FRAMES, l->times_len == 0);
+    count_limit(LOAD_OF_NO_BANDS, l->bands == 0);
+    count_limit(LOAD_OF_MOST_FRAMES, frames);
+    count_limit(LOAD_OF_MOST_BANDS, bands);
+    count_limit(LARGEST_LOAD, frames && bands);
+    count_limit(LOAD_AT_LEAST_HOP, l->hop == KISTOVAB_HOP_LEAST);
+    count_limit(LOAD_AT_MOST_HOP, l->hop == KISTOVAB_HOP_MOST);
+}
+
+// What is not written differs, since the two runs begin with other fillings.
+uint32_t fill_twice(const struct load *load, const struct filled *filled)
+{
+    struct run runs[2];
+    uint32_t codes[2];
+    begin_runs(runs);
+    begin_call("kistovab_fill_load");
+    for (int i = 0; i < 2; i++) {
+        codes[i] = call_fill(&runs[i], load);
+        check_filled(codes[i]);
+        if (codes[i] == KISTOVAB_OK && !runs[i].second) {
+            keep_row(TIMES, filled->times);
+            keep_row(ENERGIES, filled->energies);
+            keep_row(VALUES, filled->values);
+        } else if (codes[i] == KISTOVAB_OK && codes[0] == KISTOVAB_OK) {
+            must_match(TIMES, filled->times, load->times_len);
+            must_match(ENERGIES, filled->energies, load->energies_len);
+            must_match(VALUES, filled->values, load->values_len);
+        }
+    }
+    end_call(FILL_LOAD, codes);
+    if (codes[0] == KISTOVAB_OK) {
+        count_filled(load);
+    }
     return codes[0];
 }
 

@@ -1,11 +1,13 @@
-// A case: openings with faults, then a story: a film is opened, and what is heard of it submitted
-// window after window, with faults, made states and altered indexes in between.
+// A case: loads and openings with faults, then a story: a film is opened, and what is heard of it
+// submitted window after window, with faults, made states and altered indexes in between. Now and
+// then a load is the film, or a window.
 #include "fuzz.h"
 
 #include <math.h>
 
 struct story {
     struct film film;
+    bool is_load; // whether the film is a load
     struct engine engine;
     struct window window;
     size_t frames; // of a window
@@ -46,6 +48,10 @@ static void choose_film(struct story *story, enum size size)
                    : one_in(16)    ? KISTOVAB_BANDS_MOST
                                    : 1 + below(4);
     make_film(&story->film, frames, bands, hop);
+    story->is_load = one_in(8);
+    if (story->is_load) {
+        load_film(&story->film);
+    }
 }
 
 // From some place of the film on.
@@ -73,6 +79,9 @@ static void begin_story(struct story *story, enum size size)
     now.kind = "a sound opening";
     if (open_twice(&o, &story->engine) != KISTOVAB_OK) {
         fail("a sound opening is refused");
+    }
+    if (story->is_load && story->film.frames > 0) {
+        must_have_index(&story->engine, &story->film);
     }
 }
 
@@ -118,6 +127,22 @@ static void submit_sound(struct story *story, const struct submission *s)
     uint32_t code = submit_twice(&story->engine, s, snapshot);
     if (code != KISTOVAB_OK && code != KISTOVAB_REREAD) {
         fail("a sound window is refused with %u", code);
+    }
+}
+
+// A load as the window: it is answered, and not followed.
+static void submit_load(const struct story *story)
+{
+    struct window window;
+    struct submission s;
+    uint64_t snapshot[KISTOVAB_SNAPSHOT_WORDS];
+    struct engine kept = story->engine;
+    load_window(&window, &story->film);
+    sound_submission(&s, &kept, &window, story->clock);
+    now.kind = "a load as a window";
+    uint32_t code = submit_twice(&kept, &s, snapshot);
+    if (code != KISTOVAB_OK && code != KISTOVAB_REREAD) {
+        fail("a load is refused as a window with %u", code);
     }
 }
 
@@ -247,6 +272,9 @@ static void step(struct story *story)
     }
     submit_sound(story, &s);
     ask_age(&story->engine);
+    if (one_in(16) && story->film.frames < 10000) {
+        submit_load(story);
+    }
     if (one_in(4) && story->film.frames < 10000) {
         try_made(story);
     }
@@ -262,6 +290,10 @@ void run_case(uint64_t number)
     for (int i = 0; i < 4; i++) {
         check_lengths();
     }
+    load_of_any_size(size == LARGEST);
+    load_with_fault();
+    load_with_faults();
+    opening_of_load(&other);
     opening_with_fault(&other);
     opening_with_faults(&other);
     begin_story(&story, size);

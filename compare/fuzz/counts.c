@@ -9,7 +9,7 @@ static uint64_t answers[CALLS][CODES];
 static uint64_t states[2][STATES]; // of the library's own states, and of made ones
 static uint64_t limits[LIMITS];
 
-static const char *const call_names[CALLS] = {"open", "submit", "support_age"};
+static const char *const call_names[CALLS] = {"open", "submit", "support_age", "fill_load"};
 static const char *const state_names[STATES] = {"Ready",    "Listening", "Locking",
                                                 "Confirmed", "Locked",    "Drifting",
                                                 "Relocking", "Lost",      "Failed"};
@@ -22,7 +22,14 @@ static const char *const limit_names[LIMITS] = {
     [MOST_HOP] = "hop 1,000",
     [WINDOW_OF_ONE_FRAME] = "window of 1 frame",
     [WINDOW_OF_MOST_FRAMES] = "window of 1,024 frames",
-    [WINDOW_OF_MOST_BANDS] = "window of 64 bands"};
+    [WINDOW_OF_MOST_BANDS] = "window of 64 bands",
+    [LOAD_OF_NO_FRAMES] = "load of 0 frames",
+    [LOAD_OF_NO_BANDS] = "load of 0 bands",
+    [LOAD_OF_MOST_FRAMES] = "load of 65,535 frames",
+    [LOAD_OF_MOST_BANDS] = "load of 64 bands",
+    [LARGEST_LOAD] = "load of both",
+    [LOAD_AT_LEAST_HOP] = "load at hop 1",
+    [LOAD_AT_MOST_HOP] = "load at hop 1,000"};
 
 void count_answer(enum call call, uint32_t code)
 {
@@ -40,11 +47,11 @@ void count_limit(enum limit limit, bool occurred)
     limits[limit] += occurred;
 }
 
-static void print_limits(void)
+static void print_limits(enum limit first, enum limit end)
 {
     printf("  at a limit  ");
-    for (int i = 0; i < LIMITS; i++) {
-        printf("%s %s: %llu", i > 0 ? "," : "", limit_names[i], (unsigned long long)limits[i]);
+    for (enum limit i = first; i < end; i++) {
+        printf("%s %s: %llu", i > first ? "," : "", limit_names[i], (unsigned long long)limits[i]);
     }
     printf("\n");
 }
@@ -73,7 +80,8 @@ void print_counts(void)
     }
     print_states(false);
     print_states(true);
-    print_limits();
+    print_limits(0, LOAD_OF_NO_FRAMES);
+    print_limits(LOAD_OF_NO_FRAMES, LIMITS);
 }
 
 // ---- what has to occur
@@ -95,11 +103,11 @@ static void must_have_shown(bool made, uint64_t state)
     }
 }
 
-// The largest reference takes long under memcheck, and comes up in longer runs only.
+// The largest reference and load take long under memcheck, and come up in longer runs only.
 static void must_have_met_limits(void)
 {
     for (int i = 0; i < LIMITS; i++) {
-        if (limits[i] == 0 && i != LARGEST_REFERENCE) {
+        if (limits[i] == 0 && i != LARGEST_REFERENCE && i != LARGEST_LOAD) {
             fail("no %s was answered: try more cases, or mend cases.c", limit_names[i]);
         }
     }
@@ -120,6 +128,9 @@ void must_have_occurred(void)
     must_have_answered(SUPPORT_AGE, 7, 7);
     must_have_answered(SUPPORT_AGE, 101, 101);
     must_have_answered(SUPPORT_AGE, 255, 255);
+    must_have_answered(FILL_LOAD, 0, 0);
+    must_have_answered(FILL_LOAD, 2, 4);
+    must_have_answered(FILL_LOAD, 16, 16);
     for (size_t i = 0; i < sizeof own / sizeof *own; i++) {
         must_have_shown(false, own[i]);
     }

@@ -95,7 +95,7 @@ void fail(const char *format, ...) __attribute__((format(printf, 1, 2), noreturn
 
 // ---- calls.c: each call made twice, over copies, and what is asked of every answer
 
-enum call { OPEN, SUBMIT, SUPPORT_AGE, CALLS };
+enum call { OPEN, SUBMIT, SUPPORT_AGE, FILL_LOAD, CALLS };
 
 struct opening {
     double configuration[5];
@@ -136,6 +136,19 @@ struct submission {
     size_t reference_frames; // by the state; not handed in
 };
 
+struct load {
+    uint64_t seed;
+    double hop;
+    size_t bands;
+    size_t times_len, energies_len, values_len;
+};
+
+// Where what was filled is kept.
+struct filled {
+    double *times, *energies;
+    float *values;
+};
+
 // Where a state keeps what the cases need.
 enum {
     WORD_HOP = 6,
@@ -156,6 +169,7 @@ uint32_t open_twice(const struct opening *opening, struct engine *engine);
 uint32_t submit_twice(struct engine *engine, const struct submission *submission,
                       uint64_t snapshot[KISTOVAB_SNAPSHOT_WORDS]);
 uint32_t age_twice(const struct engine *engine, size_t state_len, double *age);
+uint32_t fill_twice(const struct load *load, const struct filled *filled);
 void check_lengths(void);
 
 // ---- snapshots.c
@@ -174,6 +188,13 @@ enum limit {
     WINDOW_OF_ONE_FRAME,
     WINDOW_OF_MOST_FRAMES,
     WINDOW_OF_MOST_BANDS,
+    LOAD_OF_NO_FRAMES,
+    LOAD_OF_NO_BANDS,
+    LOAD_OF_MOST_FRAMES,
+    LOAD_OF_MOST_BANDS,
+    LARGEST_LOAD,
+    LOAD_AT_LEAST_HOP,
+    LOAD_AT_MOST_HOP,
     LIMITS
 };
 
@@ -211,6 +232,7 @@ void make_window(struct window *window, const struct film *film, enum mood mood,
 // ---- openings.c
 
 double any_hop(void);
+double wrong_hop(void);
 // For windows that last so many ms.
 void sound_opening(struct opening *opening, const struct film *film, double duration);
 void spoil_reference(struct opening *opening, struct film *film);
@@ -226,6 +248,20 @@ void submission_with_fault(struct engine *engine, const struct submission *sound
                            const struct window *window);
 void submission_with_faults(const struct engine *engine, const struct submission *sound,
                             const struct window *window);
+
+// ---- loads.c
+
+void load_of_any_size(bool largest);
+// One fault, with its code; or several, or anything, with the code of the first.
+void load_with_fault(void);
+void load_with_faults(void);
+// Puts a load in the place of what a film holds.
+void load_film(struct film *film);
+void opening_of_load(struct engine *engine);
+// Fails if that film was opened without an index.
+void must_have_index(const struct engine *engine, const struct film *film);
+// A load as a window for that film; it holds until the next load.
+void load_window(struct window *window, const struct film *film);
 
 // ---- states.c: states made by a caller
 

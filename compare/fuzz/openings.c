@@ -81,12 +81,17 @@ static void fault_configuration(struct opening *o, struct film *film)
                                           : PICK(fractions);
 }
 
-static void fault_hop(struct opening *o, struct film *film)
+double wrong_hop(void)
 {
     static const double hops[] = {0.9999999999999999, 1000.0000000000001, 0.0, -0.0, -20.0,
                                   4.9e-324,           NAN,                INFINITY, -INFINITY};
+    return PICK(hops);
+}
+
+static void fault_hop(struct opening *o, struct film *film)
+{
     (void)film;
-    o->hop = PICK(hops);
+    o->hop = wrong_hop();
 }
 
 static void fault_too_large(struct opening *o, struct film *film)

@@ -30,6 +30,20 @@ static uint32_t submit_refused(struct submission submission)
     return unchanged(submit_with(submission), before, shown);
 }
 
+static uint32_t fill_unwritten(struct load load)
+{
+    static double times_before[COUNT(times)], energies_before[COUNT(energies)];
+    static float values_before[COUNT(values)];
+    memcpy(times_before, times, sizeof times);
+    memcpy(energies_before, energies, sizeof energies);
+    memcpy(values_before, values, sizeof values);
+    uint32_t code = fill_with(load);
+    CHECK(memcmp(times, times_before, sizeof times) == 0);
+    CHECK(memcmp(energies, energies_before, sizeof energies) == 0);
+    CHECK(memcmp(values, values_before, sizeof values) == 0);
+    return code;
+}
+
 // ---- opening: 1 to 6, 255
 
 static void configurations(void)
@@ -156,6 +170,77 @@ static void no_state(void)
     CHECK(age == -1.0);
 }
 
+// ---- a load: 16, 2 to 4
+
+// Buffers that hold something else than a load would.
+static struct load load(void)
+{
+    window();
+    return right_load(1);
+}
+
+static void loads(void)
+{
+    struct load spoilt = load();
+    spoilt.seed = 0;
+    CHECK_CODE(KISTOVAB_SEED_ZERO, fill_unwritten(spoilt));
+    spoilt = load();
+    spoilt.hop_ms = NAN;
+    CHECK_CODE(KISTOVAB_HOP_OUT_OF_RANGE, fill_unwritten(spoilt));
+    spoilt = load();
+    spoilt.bands = KISTOVAB_BANDS_MOST + 1;
+    CHECK_CODE(KISTOVAB_REFERENCE_TOO_LARGE, fill_unwritten(spoilt));
+    // So many bands that 8 frames of them come to 0 values, in 64 bits.
+    spoilt.bands = (size_t)1 << 61;
+    spoilt.times_len = spoilt.energies_len = 8;
+    spoilt.values_len = 0;
+    CHECK_CODE(KISTOVAB_REFERENCE_TOO_LARGE, fill_unwritten(spoilt));
+    CHECK_CODE(KISTOVAB_OK, fill_with(load()));
+}
+
+// One too few, and one too many: a load asks for exact lengths.
+static void miscounted_loads(void)
+{
+    struct load spoilt = load();
+    spoilt.energies_len--;
+    CHECK_CODE(KISTOVAB_REFERENCE_MISCOUNTED, fill_unwritten(spoilt));
+    spoilt = load();
+    spoilt.values_len--;
+    CHECK_CODE(KISTOVAB_REFERENCE_MISCOUNTED, fill_unwritten(spoilt));
+    spoilt = load();
+    spoilt.times_len--;
+    CHECK_CODE(KISTOVAB_REFERENCE_MISCOUNTED, fill_unwritten(spoilt));
+    spoilt.energies_len--;
+    CHECK_CODE(KISTOVAB_REFERENCE_MISCOUNTED, fill_unwritten(spoilt));
+    spoilt.values_len = BANDS * spoilt.times_len;
+    spoilt.energies_len++;
+    CHECK_CODE(KISTOVAB_REFERENCE_MISCOUNTED, fill_unwritten(spoilt));
+    spoilt.energies_len--;
+    spoilt.values_len++;
+    CHECK_CODE(KISTOVAB_REFERENCE_MISCOUNTED, fill_unwritten(spoilt));
+    spoilt.values_len--;
+    CHECK_CODE(KISTOVAB_OK, fill_with(spoilt));
+}
+
+// With all faults at once, mended one after the other in the order in which they are told.
+static void load_order(void)
+{
+    struct load spoilt = load();
+    spoilt.seed = 0;
+    spoilt.hop_ms = 0.5;
+    spoilt.bands = KISTOVAB_BANDS_MOST + 1;
+    spoilt.energies_len--;
+    CHECK_CODE(KISTOVAB_SEED_ZERO, fill_unwritten(spoilt));
+    spoilt.seed = UINT64_MAX;
+    CHECK_CODE(KISTOVAB_HOP_OUT_OF_RANGE, fill_unwritten(spoilt));
+    spoilt.hop_ms = HOP_MS;
+    CHECK_CODE(KISTOVAB_REFERENCE_TOO_LARGE, fill_unwritten(spoilt));
+    spoilt.bands = BANDS;
+    CHECK_CODE(KISTOVAB_REFERENCE_MISCOUNTED, fill_unwritten(spoilt));
+    spoilt.energies_len++;
+    CHECK_CODE(KISTOVAB_OK, fill_with(spoilt));
+}
+
 // ---- answers: 0, 100, 101
 
 static void answers(void)
@@ -228,6 +313,31 @@ static void empty_reference(void)
     CHECK(age == -1.0);
 }
 
+// No frames have no values; without bands there are only times and energies.
+static void empty_loads(void)
+{
+    struct load empty = load();
+    empty.values = NULL, empty.values_len = 0;
+    CHECK_CODE(KISTOVAB_REFERENCE_MISCOUNTED, fill_unwritten(empty));
+    empty.times = empty.energies = NULL;
+    empty.times_len = empty.energies_len = 0;
+    CHECK_CODE(KISTOVAB_OK, fill_unwritten(empty));
+    empty.bands = 0;
+    CHECK_CODE(KISTOVAB_OK, fill_unwritten(empty));
+    empty.seed = 0;
+    CHECK_CODE(KISTOVAB_SEED_ZERO, fill_unwritten(empty));
+    empty = load();
+    empty.energies = NULL, empty.energies_len = 0;
+    CHECK_CODE(KISTOVAB_REFERENCE_MISCOUNTED, fill_unwritten(empty));
+    empty = load();
+    empty.bands = 0;
+    empty.values = NULL, empty.values_len = 0;
+    CHECK_CODE(KISTOVAB_OK, fill_with(empty));
+    CHECK(times[WINDOW_FRAMES - 1] == (WINDOW_FRAMES - 1) * HOP_MS);
+    CHECK(energies[WINDOW_FRAMES - 1] == -20.0);
+    CHECK(values[0] == heard(0, 0));
+}
+
 int main(void)
 {
     configurations();
@@ -241,5 +351,9 @@ int main(void)
     no_state();
     answers();
     empty_reference();
+    loads();
+    miscounted_loads();
+    load_order();
+    empty_loads();
     return checked();
 }

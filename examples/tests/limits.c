@@ -3,6 +3,8 @@
 #include "unit.h"
 
 static double many_times[KISTOVAB_FRAMES_MOST + 1];
+static double many_energies[KISTOVAB_FRAMES_MOST + 1];
+static float many_values[KISTOVAB_BANDS_MOST * KISTOVAB_FRAMES_MOST];
 
 // ---- lengths
 
@@ -125,6 +127,40 @@ static void farthest(double sign)
     CHECK_CODE(KISTOVAB_OK, submit_with(submission));
 }
 
+static void load_hop_limits(void)
+{
+    static const double beyond[] = {KISTOVAB_HOP_LEAST - 0x1p-53, KISTOVAB_HOP_MOST + 0x1p-43};
+    static const double within[] = {KISTOVAB_HOP_LEAST, KISTOVAB_HOP_MOST};
+    struct load load = right_load(1);
+    for (size_t i = 0; i < COUNT(within); i++) {
+        load.hop_ms = within[i];
+        CHECK_CODE(KISTOVAB_OK, fill_with(load));
+        load.hop_ms = beyond[i];
+        CHECK_CODE(KISTOVAB_HOP_OUT_OF_RANGE, fill_with(load));
+    }
+}
+
+// What a load of that size answers, with lengths that are right.
+static uint32_t fill_many(size_t frames, size_t bands)
+{
+    struct load load = {
+        1, HOP_MS, bands, many_times, frames, many_energies, frames, many_values, bands * frames,
+    };
+    return fill_with(load);
+}
+
+static void load_limits(void)
+{
+    CHECK_CODE(KISTOVAB_OK, fill_many(KISTOVAB_FRAMES_MOST, KISTOVAB_BANDS_MOST));
+    CHECK(many_times[KISTOVAB_FRAMES_MOST - 1] == (KISTOVAB_FRAMES_MOST - 1.0) * HOP_MS);
+    CHECK(many_energies[KISTOVAB_FRAMES_MOST - 1] == -20.0);
+    CHECK_CODE(KISTOVAB_REFERENCE_TOO_LARGE, fill_many(KISTOVAB_FRAMES_MOST + 1, 1));
+    CHECK_CODE(KISTOVAB_REFERENCE_TOO_LARGE, fill_many(KISTOVAB_FRAMES_MOST + 1, 0));
+    CHECK_CODE(KISTOVAB_OK, fill_many(2, KISTOVAB_BANDS_MOST));
+    CHECK_CODE(KISTOVAB_REFERENCE_TOO_LARGE, fill_many(2, KISTOVAB_BANDS_MOST + 1));
+    CHECK_CODE(KISTOVAB_REFERENCE_TOO_LARGE, fill_many(0, KISTOVAB_BANDS_MOST + 1));
+}
+
 // A film that repeats is found in more places than are listed.
 static void candidates(void)
 {
@@ -144,6 +180,8 @@ int main(void)
     window_limits();
     farthest(1.0);
     farthest(-1.0);
+    load_hop_limits();
+    load_limits();
     candidates();
     return checked();
 }

@@ -49,6 +49,12 @@ uint32_t submit_with(struct submission s)
                            s.work64_len, s.snapshot, s.snapshot_len);
 }
 
+uint32_t fill_with(struct load l)
+{
+    return kistovab_fill_load(l.seed, l.hop_ms, l.bands, l.times, l.times_len, l.energies,
+                              l.energies_len, l.values, l.values_len);
+}
+
 // ---- sound
 
 uint32_t loudness(uint32_t source, uint32_t frame, uint32_t band)
@@ -141,6 +147,14 @@ uint32_t submit(uint32_t until_ms, uint32_t quiet, sound *of, double clock_ms)
     struct submission submission = right_submission(until_ms, WINDOW_FRAMES, quiet, of);
     submission.clock_ms = clock_ms;
     return submit_with(submission);
+}
+
+struct load right_load(uint64_t seed)
+{
+    struct load load = {
+        seed, HOP_MS, BANDS, times, COUNT(times), energies, COUNT(energies), values, COUNT(values),
+    };
+    return load;
 }
 
 double number(size_t word)

@@ -1,5 +1,5 @@
-// A unit for the tests: an opening and a submission that are right, for a test to spoil in one place,
-// and windows of a made-up film.
+// A unit for the tests: an opening, a submission and a load that are right, for a test to spoil in
+// one place, and windows of a made-up film.
 #ifndef UNIT_H
 #define UNIT_H
 
@@ -71,8 +71,21 @@ struct submission {
     size_t snapshot_len;
 };
 
+struct load {
+    uint64_t seed;
+    double hop_ms;
+    size_t bands;
+    double *times;
+    size_t times_len;
+    double *energies;
+    size_t energies_len;
+    float *values;
+    size_t values_len;
+};
+
 uint32_t open_with(struct opening opening);
 uint32_t submit_with(struct submission submission);
+uint32_t fill_with(struct load load);
 
 // ---- sound
 
@@ -107,6 +120,9 @@ struct submission right_submission(uint32_t until_ms, uint32_t frames, uint32_t 
 
 // The same, submitted.
 uint32_t submit(uint32_t until_ms, uint32_t quiet, sound *of, double clock_ms);
+
+// A load that is right in everything, into the window's buffers.
+struct load right_load(uint64_t seed);
 
 // A number of the snapshot.
 double number(size_t word);

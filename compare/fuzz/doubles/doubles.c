@@ -28,12 +28,18 @@
         times_len, energies, energies_len, values, values_len, clock_ms, work32, work32_len,       \
         work64, work64_len, snapshot, snapshot_len
 
+#define LOAD_PARAMETERS                                                                            \
+    uint64_t seed, double hop_ms, size_t bands, double *times, size_t times_len,                   \
+        double *energies, size_t energies_len, float *values, size_t values_len
+
 uint32_t __real_kistovab_open(OPEN_PARAMETERS);
 uint32_t __wrap_kistovab_open(OPEN_PARAMETERS);
 uint32_t __real_kistovab_submit(SUBMIT_PARAMETERS);
 uint32_t __wrap_kistovab_submit(SUBMIT_PARAMETERS);
 uint32_t __real_kistovab_support_age(const uint64_t *state, size_t state_len, double *age);
 uint32_t __wrap_kistovab_support_age(const uint64_t *state, size_t state_len, double *age);
+uint32_t __real_kistovab_fill_load(LOAD_PARAMETERS);
+uint32_t __wrap_kistovab_fill_load(LOAD_PARAMETERS);
 
 static bool is(const char *mistake)
 {
@@ -163,6 +169,63 @@ uint32_t __wrap_kistovab_support_age(const uint64_t *state, size_t state_len, do
     uint32_t code = __real_kistovab_support_age(state, state_len, age);
     if (is("writes an age where there is none") && code == KISTOVAB_NO_AGE) {
         *age = 0.0;
+    }
+    return code;
+}
+
+// ---- a load
+
+static void spoil_refused_load(double *times, size_t times_len)
+{
+    if (is("writes the times of a refused load") && times_len > 0) {
+        times[0] += 1.0;
+    }
+}
+
+static void spoil_load(uint64_t seed, double hop_ms, double *times, size_t times_len, float *values,
+                       size_t values_len)
+{
+    if (is("writes a value behind a load") && values_len > 0) {
+        values[values_len] = 0.0f;
+    }
+    if (is("draws the seed first") && values_len > 0) {
+        memmove(values + 1, values, (values_len - 1) * sizeof *values);
+        values[0] = (float)(seed % 4096) / 256.0f;
+    }
+    if (is("adds up the hops of a load")) {
+        for (size_t i = 1; i < times_len; i++) {
+            times[i] = times[i - 1] + hop_ms;
+        }
+    }
+}
+
+// How many values the library is told of; the rest becomes zeros.
+static size_t values_told(size_t bands, size_t times_len, size_t values_len)
+{
+    bool longer = bands <= KISTOVAB_BANDS_MOST && values_len > bands * times_len;
+    return longer && is("fills more values than a load has") ? bands * times_len : values_len;
+}
+
+uint32_t __wrap_kistovab_fill_load(LOAD_PARAMETERS)
+{
+    double last_energy = energies_len > 0 ? energies[energies_len - 1] : 0.0;
+    bool hop_fits = hop_ms >= KISTOVAB_HOP_LEAST && hop_ms <= KISTOVAB_HOP_MOST;
+    if (is("tells of a load's hop before its seed") && !hop_fits) {
+        return KISTOVAB_HOP_OUT_OF_RANGE;
+    }
+    size_t told = values_told(bands, times_len, values_len);
+    uint32_t code = __real_kistovab_fill_load(seed, hop_ms, bands, times, times_len, energies,
+                                              energies_len, values, told);
+    if (code != KISTOVAB_OK) {
+        spoil_refused_load(times, times_len);
+        return code;
+    }
+    for (size_t k = told; k < values_len; k++) {
+        values[k] = 0.0f;
+    }
+    spoil_load(seed, hop_ms, times, times_len, values, values_len);
+    if (is("leaves a load's last energy") && energies_len > 0) {
+        energies[energies_len - 1] = last_energy;
     }
     return code;
 }

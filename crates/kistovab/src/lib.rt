@@ -2,4 +2,5 @@
 // in slices that the host lends.
 pub mod calls;
 pub mod codes;
+pub mod loads;
 pub mod sizes;
