@@ -13,6 +13,16 @@ pub struct Flat {
 }
 
 impl Flat {
+    /// Room for so many frames of so many bands.
+    pub fn for_frames(frames: usize, bands: usize) -> Self {
+        Self {
+            bands,
+            times: vec![0.0; frames],
+            energies: vec![0.0; frames],
+            values: vec![0.0; bands * frames],
+        }
+    }
+
     /// Takes over frames that have `bands` values each.
     pub fn fill(&mut self, frames: &[FeatureFrame], bands: usize) {
         self.bands = bands;
@@ -30,6 +40,19 @@ impl Flat {
                 self.values.extend(frames.iter().map(|f| f.pcen_mel[band]));
             }
         }
+    }
+
+    /// The slices as frames again.
+    pub fn frames(&self) -> Vec<FeatureFrame> {
+        let count = self.times.len();
+        let frame = |number: usize| FeatureFrame {
+            recorded_time_ms: self.times[number],
+            energy_dbfs: self.energies[number],
+            pcen_mel: (0..self.bands)
+                .map(|band| self.values[band * count + number])
+                .collect(),
+        };
+        (0..count).map(frame).collect()
     }
 }
 
@@ -106,8 +129,16 @@ mod tests {
         assert_eq!(flat.times, [1.0, 2.0, 3.0]);
         assert_eq!(flat.energies, [-1.0, -2.0, -3.0]);
         assert_eq!(flat.values, [10.0, 11.0, 12.0, 20.0, 21.0, 22.0]);
+        assert_eq!(flat.frames(), three);
         flat.fill(&[frame(9.0, &[5.0])], 1);
         assert_eq!((flat.times, flat.values), (vec![9.0], vec![5.0]));
+    }
+
+    #[test]
+    fn there_is_room_for_frames_without_bands() {
+        let bare = Flat::for_frames(2, 0).frames();
+        assert_eq!(bare, vec![frame(0.0, &[]); 2]);
+        assert_eq!(Flat::for_frames(0, 2).frames(), []);
     }
 
     #[test]

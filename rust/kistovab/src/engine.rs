@@ -1,7 +1,7 @@
 //! The engine.
 
 use crate::buffers::{common_bands, Flat, Index, Work};
-use crate::refusal::Refusal;
+use crate::refusal::{mismatched, Refusal};
 use crate::types::{Configuration, FeatureFrame, FeatureWindow, Snapshot};
 use crate::{ffi, words};
 use std::fmt;
@@ -188,15 +188,8 @@ fn answered(code: u32) -> Result<AnswerKind, Refusal> {
     match code {
         ffi::DONE => Ok(AnswerKind::Computed),
         ffi::REREAD => Ok(AnswerKind::Reread),
-        number => match Refusal::from_number(number) {
-            Some(refusal) => Err(refusal),
-            None => mismatched(),
-        },
+        code => Err(Refusal::answered(code)),
     }
-}
-
-fn mismatched() -> ! {
-    panic!("libkistovab.a is of another version than this crate: build both from the same files")
 }
 
 /// What it was opened with, and the last computed snapshot.

@@ -62,6 +62,17 @@ unsafe extern "C" {
         snapshot_len: usize,
     ) -> u32;
     fn kistovab_support_age(state: *const u64, state_len: usize, age: *mut f64) -> u32;
+    fn kistovab_fill_load(
+        seed: u64,
+        hop_ms: f64,
+        bands: usize,
+        times: *mut f64,
+        times_len: usize,
+        energies: *mut f64,
+        energies_len: usize,
+        values: *mut f32,
+        values_len: usize,
+    ) -> u32;
     // Lengths of buffers: numbers in, a number out. 0 where a count is over its limit.
     #[link_name = "kistovab_fine_length"]
     pub safe fn fine_length(frames: usize, bands: usize) -> usize;
@@ -79,7 +90,7 @@ unsafe extern "C" {
 
 // ---- what calls answer, beside refusals
 
-/// Opened, computed, or an age.
+/// Opened, computed, an age, or a load that is filled.
 pub const DONE: u32 = 0;
 pub const REREAD: u32 = 100;
 pub const NO_AGE: u32 = 101;
@@ -166,6 +177,31 @@ pub fn submit(
 pub fn support_age(state: &[u64], age: &mut f64) -> u32 {
     // SAFETY: the pointer comes with its slice's length; the age is one number.
     unsafe { kistovab_support_age(state.as_ptr(), state.len(), age) }
+}
+
+/// Fills all three slices with a load.
+pub fn fill_load(
+    seed: u64,
+    hop_ms: f64,
+    bands: usize,
+    times: &mut [f64],
+    energies: &mut [f64],
+    values: &mut [f32],
+) -> u32 {
+    // SAFETY: every pointer comes with the length of its own slice.
+    unsafe {
+        kistovab_fill_load(
+            seed,
+            hop_ms,
+            bands,
+            times.as_mut_ptr(),
+            times.len(),
+            energies.as_mut_ptr(),
+            energies.len(),
+            values.as_mut_ptr(),
+            values.len(),
+        )
+    }
 }
 
 #[cfg(test)]

@@ -42,6 +42,8 @@
 //!   [`Engine::process`] panic, and tell whether an answer was computed or is a re-reading.
 //! - [`Engine::try_process_into`] fills a snapshot that is there already: nothing is allocated.
 //! - [`Engine::support_age`] says for how long a lock has been without support.
+//! - [`workload`] fills made-up references and windows from a seed, for test benches: the same
+//!   numbers in every language.
 //!
 //! # What differs
 //!
@@ -62,6 +64,7 @@ mod ffi;
 pub mod refusal;
 pub mod types;
 mod words;
+pub mod workload;
 
 pub use engine::{Answer, AnswerKind, Engine};
 pub use refusal::Refusal;

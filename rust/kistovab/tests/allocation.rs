@@ -1,9 +1,9 @@
-//! Nothing is allocated by a submission once the buffers have grown.
+//! Nothing is allocated by a submission once the buffers have grown, nor for a refused load.
 
 mod common;
 
 use common::{after, engine, missed};
-use kistovab::{AnswerKind, Refusal, Snapshot};
+use kistovab::{workload, AnswerKind, Refusal, Snapshot};
 use std::alloc::{GlobalAlloc, Layout, System};
 use std::cell::Cell;
 
@@ -79,4 +79,19 @@ fn a_submission_allocates_nothing_once_warmed() {
     assert!(kinds.iter().all(Result::is_ok) && kinds.iter().any(reread));
     let listed: Vec<usize> = kinds.iter().flatten().map(|(_, listed)| *listed).collect();
     assert!(listed.contains(&1) && listed.iter().any(|count| *count > 1));
+}
+
+#[test]
+fn a_refused_load_allocates_nothing() {
+    let refused = allocations(|| {
+        for (count, bands) in [(65_536, 64), (65_535, 65), (usize::MAX, usize::MAX)] {
+            let load = workload::frames(1, 20.0, count, bands);
+            assert_eq!(load, Err(Refusal::ReferenceTooLarge));
+        }
+        assert_eq!(workload::frames(0, 20.0, 9, 9), Err(Refusal::SeedZero));
+        let hop = workload::frames(1, 0.0, 9, 9);
+        assert_eq!(hop, Err(Refusal::HopOutOfRange));
+    });
+    assert_eq!(refused, 0);
+    assert!(allocations(|| drop(workload::frames(1, 20.0, 9, 9))) > 0);
 }

@@ -20,16 +20,6 @@ fn sound(frames: usize) -> Flat {
     flat
 }
 
-/// As many frames or bands as said, all the same.
-fn stretched(frames: usize, bands: usize) -> Flat {
-    Flat {
-        bands,
-        times: vec![0.0; frames],
-        energies: vec![0.0; frames],
-        values: vec![0.0; frames * bands],
-    }
-}
-
 // ---- opening
 
 /// All that opening is handed.
@@ -86,8 +76,8 @@ fn openings_are_refused_by_number() {
         (2, |o| o.hop_ms = 1.0_f64.next_down()),
         (2, |o| o.hop_ms = 1_000.0_f64.next_up()),
         (2, |o| o.hop_ms = f64::NAN),
-        (3, |o| o.reference = stretched(2, 65)),
-        (3, |o| o.reference = stretched(65_536, 1)),
+        (3, |o| o.reference = Flat::for_frames(2, 65)),
+        (3, |o| o.reference = Flat::for_frames(65_536, 1)),
         (4, |o| o.reference.values.truncate(2 * REFERENCE - 1)),
         (5, |o| o.reference.times[3] = 1e12_f64.next_up()),
         (6, |o| o.index.fine.truncate(2 * REFERENCE - 1)),
@@ -163,10 +153,10 @@ fn submissions_are_refused_by_number() {
         (7, |s| s.state[6] = 0.5_f64.to_bits()),
         (8, |s| s.clock_ms = f64::NAN),
         (8, |s| s.clock_ms = f64::NEG_INFINITY),
-        (9, |s| s.window = stretched(0, 2)),
-        (10, |s| s.window = stretched(1_025, 1)),
-        (10, |s| s.window = stretched(1, 65)),
-        (11, |s| s.window = stretched(WINDOW, 0)),
+        (9, |s| s.window = Flat::for_frames(0, 2)),
+        (10, |s| s.window = Flat::for_frames(1_025, 1)),
+        (10, |s| s.window = Flat::for_frames(1, 65)),
+        (11, |s| s.window = Flat::for_frames(WINDOW, 0)),
         (11, |s| s.window.energies.truncate(WINDOW - 1)),
         (11, |s| s.window.values.truncate(2 * WINDOW - 1)),
         (11, |s| s.window.values[5] = -1.0),
