@@ -148,7 +148,7 @@ fn places(svg: &mut Svg, moments: &[Moment]) {
     candidates(svg, &PLACES, moments, across);
     PLACES.border(svg);
     svg.words(
-        PLACES.at(1.5, 50.5),
+        PLACES.at(1.5, 52.0),
         PLAIN,
         "the wrong chorus fits best: a guess, never locked",
     );

@@ -1,6 +1,8 @@
-//! The made-up film: a minute of sound in eight bands. Its chorus comes twice.
+//! The made-up film: a minute of sound in eight bands, with notes that the library draws (loads). Its
+//! chorus comes twice.
 
-use kistovab::FeatureFrame;
+use kistovab::{workload, FeatureFrame};
+use std::sync::LazyLock;
 
 pub const HOP_MS: i64 = 20;
 pub const BANDS: usize = 8;
@@ -9,25 +11,25 @@ pub const BANDS: usize = 8;
 pub struct Section {
     pub name: &'static str,
     pub begin_ms: i64,
-    /// What it sounds like. Both choruses have the same; 0, the credits', is silence.
-    melody: u64,
+    /// What it sounds like. Both choruses have the same; the credits are silent.
+    melody: Option<&'static Melody>,
 }
 
-pub const SECTIONS: [Section; 7] = [
-    section("intro", 0, 1),
-    section("verse 1", 8_000, 2),
-    section("1st chorus", FIRST_CHORUS_MS, 3),
-    section("verse 2", VERSE_2_MS, 4),
-    section("2nd chorus", 46_000, 3),
-    section("outro", 56_000, 5),
-    section("credits", CREDITS_MS, 0),
+pub static SECTIONS: [Section; 7] = [
+    section("intro", 0, Some(&INTRO)),
+    section("verse 1", 8_000, Some(&VERSE_1)),
+    section("1st chorus", FIRST_CHORUS_MS, Some(&CHORUS)),
+    section("verse 2", VERSE_2_MS, Some(&VERSE_2)),
+    section("2nd chorus", 46_000, Some(&CHORUS)),
+    section("outro", 56_000, Some(&OUTRO)),
+    section("credits", CREDITS_MS, None),
 ];
 pub const FIRST_CHORUS_MS: i64 = 22_000;
 pub const VERSE_2_MS: i64 = 32_000;
 pub const CREDITS_MS: i64 = 65_000;
 pub const END_MS: i64 = 72_000;
 
-const fn section(name: &'static str, begin_ms: i64, melody: u64) -> Section {
+const fn section(name: &'static str, begin_ms: i64, melody: Option<&'static Melody>) -> Section {
     Section {
         name,
         begin_ms,
@@ -54,7 +56,6 @@ pub struct Film {
     pub voice: bool,
 }
 
-const VOICE: u64 = 11;
 const VOICE_BAND: usize = 3;
 
 impl Film {
@@ -74,37 +75,47 @@ impl Film {
         let since_ms = place_ms - section.begin_ms;
         let spoken = self.voice && section.begin_ms == FIRST_CHORUS_MS;
         std::array::from_fn(|band| match section.melody {
-            0 => 0.0,
-            _ if spoken && band == VOICE_BAND => tone(VOICE, band, since_ms),
-            melody => tone(melody, band, since_ms),
+            None => 0.0,
+            Some(_) if spoken && band == VOICE_BAND => tone(&VOICE, band, since_ms),
+            Some(melody) => tone(melody, band, since_ms),
         })
     }
 }
 
+/// A load whose frames are notes.
+type Melody = LazyLock<Vec<FeatureFrame>>;
+
+static INTRO: Melody = LazyLock::new(|| notes(1));
+static VERSE_1: Melody = LazyLock::new(|| notes(2));
+static CHORUS: Melody = LazyLock::new(|| notes(3));
+static VERSE_2: Melody = LazyLock::new(|| notes(4));
+static OUTRO: Melody = LazyLock::new(|| notes(5));
+static VOICE: Melody = LazyLock::new(|| notes(6));
+
 /// How long a note is.
 const NOTE_MS: i64 = 120;
+/// How long the longest sections last, the verses.
+const LONGEST_MS: i64 = 14_000;
 
-/// A band of a melody: a level for each note, and a straight line from one to the next.
-fn tone(melody: u64, band: usize, since_ms: i64) -> f32 {
-    let note = since_ms.div_euclid(NOTE_MS);
-    let share = since_ms.rem_euclid(NOTE_MS) as f32 / NOTE_MS as f32;
-    let from = level(melody, band, note);
-    from + (level(melody, band, note + 1) - from) * share
+/// As many notes as begin in the longest section, and the one that the last of them leads to.
+fn notes(number: u64) -> Vec<FeatureFrame> {
+    load(number, NOTE_MS, LONGEST_MS / NOTE_MS + 2)
 }
 
-fn level(melody: u64, band: usize, note: i64) -> f32 {
-    4.0 * chance([melody, band as u64, note as u64])
+/// A band of a melody: a level from 0 up to 4 for each note, and a straight line from one to the
+/// next.
+fn tone(melody: &[FeatureFrame], band: usize, since_ms: i64) -> f32 {
+    let note = (since_ms / NOTE_MS) as usize;
+    let share = (since_ms % NOTE_MS) as f32 / NOTE_MS as f32;
+    let [from, to] = [note, note + 1].map(|note| melody[note].pcen_mel[band] / 4.0);
+    from + (to - from) * share
 }
 
-/// A number from 0 up to 1 that follows from the three given and looks as if by chance. It is made
-/// of whole numbers, so that every machine makes the same.
-pub fn chance(words: [u64; 3]) -> f32 {
-    let mix = |hash: u64, word: u64| {
-        let mixed = (hash ^ word).wrapping_mul(0x9E37_79B9_7F4A_7C15);
-        mixed ^ (mixed >> 29)
-    };
-    let hash = words.into_iter().fold(1, mix);
-    (mix(hash, 0) >> 40) as f32 / (1 << 24) as f32
+/// The load of a number: eight bands with values from 0 up to 16, the same on every machine. Numbers
+/// are spread to seeds that are far apart, since small seeds may draw much alike at first.
+pub fn load(number: u64, hop_ms: i64, frames: i64) -> Vec<FeatureFrame> {
+    let seed = number.wrapping_mul(0x9E37_79B9_7F4A_7C15);
+    workload::frames(seed, hop_ms as f64, frames as usize, BANDS).expect("a load within the limits")
 }
 
 #[cfg(test)]
@@ -123,6 +134,14 @@ mod tests {
         for since_ms in (0..10_000).step_by(7) {
             let (first, second) = (first.begin_ms + since_ms, second.begin_ms + since_ms);
             assert_eq!(PLAIN.sound(first), PLAIN.sound(second));
+        }
+    }
+
+    #[test]
+    fn notes_are_the_frames_of_a_load() {
+        for (note, frame) in CHORUS.iter().enumerate().take(83) {
+            let sound = PLAIN.sound(FIRST_CHORUS_MS + note as i64 * NOTE_MS);
+            assert_eq!(sound.map(|level| 4.0 * level).to_vec(), frame.pcen_mel);
         }
     }
 

@@ -112,7 +112,7 @@ fn stretches(screening: &Screening) -> Vec<Stretch> {
 const NOTES: [(f64, f64, &str); 5] = [
     (0.15, 51.0, "both choruses"),
     (0.15, 47.5, "fit: no lock"),
-    (5.9, 26.5, "verse 2 is on the film once: one place is left"),
+    (5.9, 27.5, "verse 2 is on the film once: one place is left"),
     (9.0, 42.0, "kept while the audience is loud"),
     (11.1, 50.0, "the film skips 20 s"),
 ];

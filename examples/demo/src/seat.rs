@@ -1,8 +1,9 @@
 //! What a seat hears of a screening, and which windows it hands in.
 
-use crate::film::{chance, Film, BANDS, HOP_MS};
+use crate::film::{load, Film, BANDS, HOP_MS};
 use kistovab::{FeatureFrame, FeatureWindow};
 use std::ops::Range;
+use std::sync::LazyLock;
 
 /// The film goes on: from a recorded time on, from a place on.
 pub struct Reel {
@@ -37,6 +38,10 @@ const SPOKEN: Film = Film { voice: true };
 
 /// No frame of the seat falls on one of the film's.
 const BESIDE_MS: i64 = 7;
+
+/// What the hall adds to the film: a load of 20 s, by recorded time. With another number the film
+/// may be heard for a moment in the midst of the noise.
+static HALL: LazyLock<Vec<FeatureFrame>> = LazyLock::new(|| load(16, HOP_MS, 20_000 / HOP_MS));
 
 /// It begins in the first chorus. The audience is loud for a while, then the film skips 20 s. In the
 /// end it is silent.
@@ -159,8 +164,8 @@ impl Screening {
         } else {
             (1.0, 1.2, -20.0)
         };
-        let heard =
-            |band| share * film[band] + rustle * chance([7, band as u64, recorded_ms as u64]);
+        let hall = &HALL[(recorded_ms / HOP_MS) as usize].pcen_mel;
+        let heard = |band| share * film[band] + rustle * hall[band] / 16.0;
         FeatureFrame {
             recorded_time_ms: recorded_ms as f64,
             energy_dbfs,
