@@ -13,6 +13,7 @@ mod recorded;
 mod sessions;
 mod timeline;
 mod value;
+mod workload;
 
 use compare::Effort;
 use std::io::Write;
@@ -21,7 +22,7 @@ use std::{env, io};
 
 const USAGE: &str = "\
 usage: run [--quick | --bench | --bench-engine | --list | --matcher-list | --engine-list | --sessions | --samples]
-       run (--numbers | --matcher | --records | --engine) [--quick]
+       run (--numbers | --matcher | --records | --load | --engine) [--quick]
        run --session NUMBER
        run --mutants [WORDS OF A NAME]
        run --repeat (whole | local | opening) (ours | replaced | own)";
@@ -42,7 +43,7 @@ fn main() -> ExitCode {
             Ok(number) => print(&engine::check::shown(number)),
             Err(_) => usage(),
         },
-        ["--bench"] => print(&(numbers::bench::table() + "\n" + &matcher::bench::table())),
+        ["--bench"] => print(&bench()),
         ["--bench-engine"] => print(&engine::bench::table()),
         ["--repeat", operation, side] => match matcher::bench::repeat(operation, side) {
             Some(line) => print(&line),
@@ -62,7 +63,7 @@ fn usage() -> ExitCode {
     ExitCode::from(2)
 }
 
-const PARTS: [&str; 4] = ["--numbers", "--matcher", "--records", "--engine"];
+const PARTS: [&str; 5] = ["--numbers", "--matcher", "--records", "--load", "--engine"];
 
 fn is_part(word: &str) -> bool {
     PARTS.contains(&word)
@@ -78,6 +79,7 @@ fn check_part(part: &str, effort: Effort) -> bool {
         "--numbers" => numbers::check::check(effort),
         "--matcher" => matcher::check::check(effort),
         "--records" => records(),
+        "--load" => workload::check::check(effort),
         _ => engine::check::check(effort),
     }
 }
@@ -91,6 +93,15 @@ fn records() -> bool {
         sessions::check(),
     ];
     parts.into_iter().all(|same| same)
+}
+
+fn bench() -> String {
+    let tables = [
+        numbers::bench::table(),
+        matcher::bench::table(),
+        workload::bench::table(),
+    ];
+    tables.join("\n")
 }
 
 fn verdict(same: bool) -> ExitCode {

@@ -3,7 +3,7 @@
 
 mod altered;
 pub mod bench;
-mod both;
+pub mod both;
 pub mod check;
 mod generate;
 mod kinds;
@@ -16,6 +16,6 @@ mod places;
 mod readable;
 mod reading;
 mod refusals;
-mod session;
+pub mod session;
 mod theirs;
 mod words;

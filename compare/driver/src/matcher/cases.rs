@@ -4,6 +4,7 @@ use super::case::{Case, Frames};
 use crate::family::pattern;
 use crate::random::Random;
 use crate::timeline::reach_step;
+use crate::workload::ours;
 
 const HOPS: [f64; 19] = [
     1.0,
@@ -73,31 +74,28 @@ pub fn largest(n: u64) -> Case {
     make(&mut random, hop, 64, 65_535, 1_024)
 }
 
-/// A case for measuring: a window cut out of noise.
+/// What is measured: the seeds of the reference, and of the noise that a window hears it with.
+pub const FILM: u64 = 88_172_645_463_325_252;
+const NOISE: u64 = 123_456_789_362_436_069;
+
+/// A case for measuring, all of loads: a window cut out of one, louder and softer by another.
 pub fn measured(hop: f64, bands: usize, reference_frames: usize, frames: usize) -> Case {
-    let mut random = Random::new(7);
-    let reference = sound(&mut random, Sound::Noise, bands, reference_frames);
+    let load = |seed, frames| ours::load(seed, hop, bands, frames).expect("nothing to refuse");
+    let (film, noise) = (load(FILM, reference_frames), load(NOISE, frames));
     let at = reference_frames / 3;
-    let reference = Frames {
-        bands,
-        times: regular(0.0, hop, reference_frames),
-        values: reference,
-    };
-    let mut window = Frames {
-        bands,
-        times: regular(5_000.0, hop, frames),
-        values: reference.values[at * bands..(at + frames) * bands].to_vec(),
-    };
-    for value in &mut window.values {
-        *value *= 0.75 + random.unit() as f32 / 2.0;
-    }
+    let bands_heard = film.values.chunks_exact(reference_frames);
+    let heard = bands_heard.flat_map(|band| &band[at..at + frames]);
+    // From 0.75 to 1.25.
+    let values: Vec<f32> = heard
+        .zip(&noise.values)
+        .map(|(value, noise)| value * (0.75 + noise / 32.0))
+        .collect();
     let offset = at as f64 * hop - 5_000.0;
-    let ranges = vec![(offset - 100.0, offset + 100.0)];
     Case {
         hop,
-        reference,
-        window,
-        ranges,
+        reference: Frames::of_bands(bands, film.times, &film.values),
+        window: Frames::of_bands(bands, regular(5_000.0, hop, frames), &values),
+        ranges: vec![(offset - 100.0, offset + 100.0)],
     }
 }
 
@@ -294,5 +292,21 @@ fn range(random: &mut Random, offset: f64, hop: f64) -> (f64, f64) {
         7 => (offset - 3.0 * hop, offset + 3.0 * hop),
         8 => (offset, offset + 0.5 * hop),
         _ => (centre - 160.0, centre + 160.0),
+    }
+}
+
+#[cfg(test)]
+mod tests {
+    use super::*;
+
+    #[test]
+    fn the_measured_window_is_heard_at_a_third() {
+        let case = measured(20.0, 2, 30, 4);
+        assert_eq!(case.reference.times, regular(0.0, 20.0, 30));
+        assert_eq!(case.ranges, [(-4_900.0, -4_700.0)]);
+        for (at, heard) in case.window.values.iter().enumerate() {
+            let clean = case.reference.values[10 * 2 + at];
+            assert!((0.75 * clean..1.25 * clean).contains(heard) || clean == 0.0);
+        }
     }
 }

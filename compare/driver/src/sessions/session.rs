@@ -20,6 +20,17 @@ pub struct Window {
     pub values: Vec<f32>,
 }
 
+/// Without its energies, what is heard may be a reference.
+impl From<Window> for Soundtrack {
+    fn from(window: Window) -> Self {
+        Self {
+            bands: window.bands,
+            times: window.times,
+            values: window.values,
+        }
+    }
+}
+
 impl Window {
     /// Refusal 11 of document 01 lets it pass.
     pub fn is_well_formed(&self) -> bool {

@@ -1,13 +1,14 @@
 //! A million submissions to one engine: whether a call's time or the process's memory grows.
 
-use super::super::generate::scene::{ready, reference, Scene};
-use super::super::generate::sound::Sound;
+use super::super::generate::scene::{ready, Scene};
 use super::super::ours::{self, Index};
 use super::super::session::{index_lengths, work_lengths};
 use super::super::words;
 use crate::matcher::bench::clock::worked;
+use crate::matcher::cases::FILM;
 use crate::random::Random;
 use crate::sessions::session::Window;
+use crate::workload::ours::load;
 use std::fs;
 use std::time::Duration;
 
@@ -34,15 +35,10 @@ pub struct Long {
 
 pub fn measured() -> Long {
     let reference_frames = FRAMES + (HEARD as f64 * STEP / HOP) as usize;
-    let mut random = Random::new(11);
-    let film = reference(
-        &mut random,
-        Sound::Smooth,
-        HOP,
-        0.0,
-        BANDS,
-        reference_frames,
-    );
+    let random = Random::new(11);
+    let film = load(FILM, HOP, BANDS, reference_frames)
+        .expect("nothing to refuse")
+        .into();
     let mut scene = Scene::new(random, HOP, ready(HOP, FRAMES), film, FRAMES, 0.0, 0.0);
     let mut windows: Vec<Window> = Vec::new();
     for _ in 0..HEARD {
