@@ -1,4 +1,6 @@
 // The layout of a state and a snapshot in words (specs/Layout.antt), and the words of single values.
+#![tactic(auto)]
+
 pub mod candidates;
 pub mod options;
 pub mod rows;

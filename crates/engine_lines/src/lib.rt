@@ -1,4 +1,6 @@
 // Lines of engine_replay's list: what each asks of the C calls, and what they answer to it.
+#![tactic(auto)]
+
 pub mod answers;
 pub mod line;
 pub mod opening;

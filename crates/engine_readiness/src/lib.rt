@@ -1,4 +1,6 @@
 // Readiness: why a window cannot be searched.
+#![tactic(auto)]
+
 ghost use Rattle.std.specs.Prelude.{ℕ, ◌<◌, ◌≤◌, get_or, length, ◌≡◌};
 ghost use Rattle.std.specs.Float.Ieee.{le};
 ghost use Rattle.std.specs.Float.{nan};

@@ -2,6 +2,8 @@
 // list, on standard input, is made by `compare/run --engine-list`. A line is 15 words of 16
 // lowercase hexadecimal digits with a byte after each: 12 that make an opening (the first is 0) or a
 // submission (1), see `opening::Opening` and `submission::Submission`, then the three answers.
+#![tactic(auto)]
+
 ghost use Rattle.std.specs.Prelude.{◌+◌, ◌≤◌, length, cond, ◌≡◌};
 ghost use Rattle.engine_lines.specs.Lines.{agreement_with, in_all, line_bytes};
 ghost use Rattle.hexadecimal.specs.Hexadecimal.{list_most};

@@ -1,2 +1,4 @@
 // The searches of a window, local and whole, and what the lock's rules make of them.
+#![tactic(auto)]
+
 pub mod search;

@@ -1,4 +1,6 @@
 // What a search reads: the index of a reference, and the query of a window. Below the matcher, which
 // hands both on.
+#![tactic(auto)]
+
 pub mod index;
 pub mod query;

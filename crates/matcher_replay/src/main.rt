@@ -2,6 +2,8 @@
 // otherwise. The list, on standard input, is made by `compare/run --matcher-list`. A case is a line
 // of 14 words of 16 lowercase hexadecimal digits with a byte after each: eight words that make the
 // case, hop and reach as f64 bit patterns (see `case::Case`), then the six answers.
+#![tactic(auto)]
+
 mod answers;
 mod case;
 mod digest;

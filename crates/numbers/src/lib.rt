@@ -1,5 +1,7 @@
 // The number functions that matcher and engine rest on, each total and equal to a definition of
 // specs/, which is written from document 01. Nothing above this crate looks at bits.
+#![tactic(auto)]
+
 pub mod constants;
 pub mod counts;
 pub mod exponential;

@@ -3,6 +3,8 @@
 // `compare/run --list`. A case is a line of 41 bytes: the function's name, padded with blanks to
 // six, and the f64 bit patterns of the input and of the answer, 16 lowercase hexadecimal digits
 // each. An f32 is given widened, and a NaN as 7ff8000000000000.
+#![tactic(auto)]
+
 mod line;
 mod reply;
 

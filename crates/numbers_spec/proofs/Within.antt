@@ -4,6 +4,7 @@ use Prim.Native.Nat.{ℕ, suc, ◌+◌, ◌*◌, ◌^◌, ◌≤◌, ◌<◌}
 use native.Mathlib.Nat.{le_trans, le_of_eq, lt_irrefl, mul-one, mul_comm, mul_assoc, mul_left_comm, mul_right_comm, mul-le-mul_right, mul-le-mul, mul-pos, le_of_mul-le-mul_right, add-mul, zero-mul, zero-add, mul-lt-mul_of_pos_right, lt_of_le_of_lt, lt_of_lt_of_le}
 use native.Mathlib.Omega.{arith}
 use mathlib.Core.Bool.{Bool, true, false, cond, true≢false}
+use mathlib.Core.List.{List}
 use lib.ListN.{length}
 use lib.IntN.{pos}
 use lib.Dec.{T, lit<, eqb, eqb→eq}
@@ -16,7 +17,7 @@ use lib.Ieee.Positive.{first_pos}
 use lib.Ieee.Scale.{finite}
 use Rattle.numbers_spec.specs.Arithmetic.{zero⁺, one, magnitude}
 use Rattle.numbers_spec.proofs.Sign.{neg_round}
-use Rattle.numbers_spec.specs.Values.{sided, size, Den, Within, Holds, nothing, each, running}
+use Rattle.numbers_spec.specs.Values.{sided, size, Den, Within, Holds, Each, nothing, each, running}
 use Rattle.numbers_spec.specs.FloatLaws.{AddWithin, SubWithin, MulWithin, DivWithin, LeGivesSize, OneGivesSize, RoundWithin, WithinGivesAtMost, AtMostGivesWithin, RunningWithin, SumWithin}
 use Rattle.numbers_spec.proofs.Order.{Pos, Neg, den_pos, tested→ordered, below→le, le→below, cross}
 use Rattle.numbers_spec.proofs.Rounding.{round_sided, is_le}
@@ -161,14 +162,14 @@ at_most_within n p (inf s) h = absurd (unfold le in h)
 at_most_within n p (fin s m e) h = record { finite_is = tt; small = let k = cross m e n (pos p) h in omega arith }
 
 -- ---- running sums: what the prefix sums, the dot product's lanes and the sum over the bands are
-pub running_within : RunningWithin
-running_within f n p s l H S nothing = subst (λ (k : ℕ). Within k p s) (plus_zero n) S
+running_within_from : (p : ℕ) (f : Format) (n : ℕ) (s : Float) (l : List Float) → Holds f (n + length l) p → Within n p s → Each p l → Within (n + length l) p (running f s l)
+running_within_from p f n s l H S nothing = subst (λ (k : ℕ). Within k p s) (plus_zero n) S
   where
     plus_zero : (n : ℕ) → n ≡ n + 0
     plus_zero n = omega arith
-running_within f n p s l H S (each {x = x} {l = k} h t) =
+running_within_from p f n s l H S (each {x = x} {l = k} h t) =
     subst (λ (j : ℕ). Within j p (running f (add f s x) k)) (shift n (length k))
-    (running_within f (n + 1) p (add f s x) k (subst (λ (j : ℕ). Holds f j p) (sym (shift n (length k))) H)
+    (running_within_from p f (n + 1) (add f s x) k (subst (λ (j : ℕ). Holds f j p) (sym (shift n (length k))) H)
     (add_within f n 1 p s x (record { few = lt_of_le_of_lt (less n (length k)) H.few; room = lt_of_le_of_lt (mul-le-mul_right (2 ^ p) (less n (length k))) H.room }) S h) t)
   where
     shift : (n m : ℕ) → n + 1 + m ≡ n + suc m
@@ -176,6 +177,9 @@ running_within f n p s l H S (each {x = x} {l = k} h t) =
 
     less : (n m : ℕ) → n + 1 ≤ n + suc m
     less n m = omega arith
+
+pub running_within : RunningWithin
+running_within f n p = running_within_from p f n
 
 pub sum_within : SumWithin
 sum_within f p l H h =
