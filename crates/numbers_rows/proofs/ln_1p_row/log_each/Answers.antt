@@ -1,0 +1,18 @@
+use mathlib.Core.Path.{refl}
+use Prim.Native.Nat.{◌-◌}
+use native.Mathlib.Omega.{arith}
+use lib.ListN.{length-set}
+use Rattle.numbers_rows.proofs.LogPasses.{logged_all}
+use Rattle.numbers_rows.proofs.Rows.{none, holds_more}
+use Rattle.numbers_rows.proofs.ln_1p_row.log_each.Goals as goal
+
+pub loop-i-init : goal.loop-i-init
+loop-i-init c = (omega arith, refl, (λ k l. none l))
+
+pub loop-i-preserved : goal.loop-i-preserved
+loop-i-preserved c =
+    let now = c.loop-i in
+    (omega arith, simp length-set now.invariant.1, holds_more _ now.i now.logs now.invariant.2 c.ln_1p.ensures (omega arith))
+
+pub returns : goal.returns
+returns c = logged_all _ c.loop-i.i c.loop-i.logs c.loop-i.invariant.2 (omega arith) (omega arith)

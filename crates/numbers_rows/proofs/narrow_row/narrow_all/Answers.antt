@@ -1,0 +1,22 @@
+use mathlib.Core.Path.{refl}
+use Prim.Native.Nat.{◌-◌}
+use native.Mathlib.Omega.{arith}
+use lib.ListN.{length-set}
+use Rattle.numbers_rows.proofs.Rows.{all_narrowed, none, holds_more}
+use Rattle.numbers.specs.Plain.{plain}
+use Rattle.numbers_spec.proofs.RowLaws.{every_at}
+use Rattle.numbers_rows.proofs.narrow_row.narrow_all.Goals as goal
+
+pub loop-i-init : goal.loop-i-init
+loop-i-init c = (omega arith, refl, (λ k l. none l))
+
+pub narrow_plain-requires : goal.narrow_plain-requires
+narrow_plain-requires c = every_at plain c.args.x.now c.loop-i.i c.requires.fact_2 (omega arith)
+
+pub loop-i-preserved : goal.loop-i-preserved
+loop-i-preserved c =
+    let now = c.loop-i in
+    (omega arith, simp length-set now.invariant.1, holds_more _ now.i now.out now.invariant.2 c.narrow_plain.ensures (omega arith))
+
+pub returns : goal.returns
+returns c = all_narrowed _ c.loop-i.i c.loop-i.out c.loop-i.invariant.2 (omega arith) (omega arith)
