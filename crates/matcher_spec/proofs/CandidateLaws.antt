@@ -21,7 +21,7 @@ use Rattle.matcher_spec.specs.Limits.{candidates_most}
 
 -- ---- what owning a result tells: its array has 8 elements
 pub eight : (r : MatchResult) (vs : List Val) → Is (row the_type) r vs → length r.candidates ≡ 8
-eight r vs p = simp length-map at p.1.1.0.1.0.1
+eight r vs p = p.1.1.0.1.0.1
 
 -- ---- the first n of a list, from the i-th on
 -- the next, and those after it

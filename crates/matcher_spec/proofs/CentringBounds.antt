@@ -72,9 +72,19 @@ module _ (t : ℕ → Float) (n : ℕ) (short : n ≤ 2 ^ 40) (each : (i : ℕ) 
       (sum_finite low (omega arith)) b.above (sum_grows low j l)
 
 -- ---- the mean around a frame, of values from 0 to 91
+narrow_zero : T (le zero⁺ (nearest_f32 zero⁺))
+unfolding nearest_f32 round le
+narrow_zero = tt
+
+narrow_92 : T (le (nearest_f32 (real 92)) (real 92))
+unfolding nearest_f32 of_int round le
+narrow_92 = tt
+
 narrow_upto : (x : Float) → Upto 92 x → Upto 92 (nearest_f32 x)
-unfolding nearest_f32 of_int round
-narrow_upto x h = record { from = narrow_mono zero⁺ x h.from; to = narrow_mono x (real 92) h.to }
+narrow_upto x h = record {
+  from = le_transitive zero⁺ (nearest_f32 zero⁺) (nearest_f32 x) narrow_zero (narrow_mono zero⁺ x h.from);
+  to = le_transitive (nearest_f32 x) (nearest_f32 (real 92)) (real 92) (narrow_mono x (real 92) h.to) narrow_92;
+}
 
 module _ (v : List Float) (short : length v ≤ 2 ^ 40) (each : Every (Upto 91) v) (r i : ℕ) (R : r ≤ 2 ^ 40) (I : i < length v) where
   -- what the frames past an end add
@@ -100,6 +110,14 @@ module _ (v : List Float) (short : length v ≤ 2 ^ 40) (each : Every (Upto 91) 
 small : (x : Float) → F32 x → AtMost (real 92) x → Small x
 small x F h = record { held = F; most = h; within = widened_to 23 23 2 1 7 x (omega arith) tt (at_most_within 23 2 x (unfold of_int round in h)) }
 
+less_92 : T (le (neg (real 92)) (sub binary32 zero⁺ (real 92)))
+unfolding sub neg add of_int round le
+less_92 = tt
+
+below_92 : T (le (sub binary32 (real 91) zero⁺) (real 92))
+unfolding sub neg add of_int round le
+below_92 = tt
+
 difference : (x y : Float) → Upto 91 x → Upto 92 y → Small (sub binary32 x y)
 difference x y h k =
     let X = upto_finite 91 x (omega arith) h in
@@ -108,11 +126,11 @@ difference x y h k =
     (between_at_most (real 92) (sub binary32 x y)
     (record {
       from = le_transitive (neg (real 92)) (sub binary32 x (real 92)) (sub binary32 x y)
-          (unfold sub neg add of_int round le in sub_mono binary32 zero⁺ x (real 92) tt X tt h.from)
+          (le_transitive (neg (real 92)) (sub binary32 zero⁺ (real 92)) (sub binary32 x (real 92)) less_92 (sub_mono binary32 zero⁺ x (real 92) tt X (real_finite 92 (omega arith)) h.from))
           (sub_anti binary32 x y (real 92) X Y (real_finite 92 (omega arith)) k.to);
       to = le_transitive (sub binary32 x y) (sub binary32 x zero⁺) (real 92)
           (sub_anti binary32 x zero⁺ y X tt Y k.from)
-          (le_transitive (sub binary32 x zero⁺) (sub binary32 (real 91) zero⁺) (real 92) (sub_mono binary32 x (real 91) zero⁺ X (real_finite 91 (omega arith)) tt h.to) (unfold sub neg add of_int round le in tt));
+          (le_transitive (sub binary32 x zero⁺) (sub binary32 (real 91) zero⁺) (real 92) (sub_mono binary32 x (real 91) zero⁺ X (real_finite 91 (omega arith)) tt h.to) below_92);
     }))
 
 -- ---- rows of values that a band may hold

@@ -94,7 +94,7 @@ module _ {P : Candidate → Type 0} where
   sort_every : {k l : List Candidate} → Every P k → Every P l → Every P (sort_into k l)
   unfolding sort_into
   sort_every d none = d
-  sort_every d (more {c = c} p e) = sort_every (insert_every c p d) e
+  sort_every {k = k} d (more {c = c} p e) = sort_every {k = insert c k} (insert_every c p d) e
 
 insert_ordered : (c : Candidate) {l : List Candidate} → Scored c → Every Scored l → Ordered NoHigher l → Ordered NoHigher (insert c l)
 unfolding insert
@@ -106,7 +106,7 @@ insert_ordered c s (more n a) (each {c = d} {l = l} e o) = cond_elim (Ordered No
 sort_ordered : {k l : List Candidate} → Every Scored k → Every Scored l → Ordered NoHigher k → Ordered NoHigher (sort_into k l)
 unfolding sort_into
 sort_ordered a none o = o
-sort_ordered a (more {c = c} s b) o = sort_ordered (insert_every c s a) b (insert_ordered c s a o)
+sort_ordered {k = k} a (more {c = c} s b) o = sort_ordered {k = insert c k} (insert_every c s a) b (insert_ordered c s a o)
 
 -- ---- the 750 rule
 -- what holds of the listed and the rest holds of what is kept

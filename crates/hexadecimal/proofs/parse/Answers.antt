@@ -1,4 +1,3 @@
--- `hexadecimal::parse` meets its contract: to go on from the digits read so far gives the answer. Assumes nothing.
 use mathlib.Core.Path.{◌≡◌, refl, sym, ap, ◌∙◌, subst}
 use mathlib.Core.Bool.{Bool, true, false, cond}
 use mathlib.Core.List.{List}
@@ -10,12 +9,10 @@ use lib.Dec.{T, ltb, ltb→lt}
 use lib.ListN.{length, drop, get_or, drop_of_length-le}
 use lib.Pow.{pow-add, pow_mono}
 use lib.Seq.{drop-cons}
-use borrow.Author.Rules.{rules}
 use borrow.Author.Tests.{eq-eqb, ne_eqb}
 use Rattle.hexadecimal.specs.declared.Word.TheVariants.{Is, Malformed}
 use Rattle.hexadecimal.specs.Hexadecimal.{digit_of, word_from}
-use Rattle.hexadecimal.proofs.parse.Statement.{statement}
-use Rattle.hexadecimal.proofs.parse.Tie as tie
+use Rattle.hexadecimal.proofs.parse.Goals as goal
 
 digit_le : (b : ℕ) → digit_of b ≤ 16
 unfolding digit_of
@@ -60,57 +57,34 @@ fits n i h k = lt_of_lt_of_le h (pow_mono (most i k))
     most : (i : ℕ) → i < 16 → 4 * (i + 1) ≤ 64
     most i k = omega arith
 
-abbrev invariant-loop : tie.invariant-loop
-invariant-loop text value₀ i₀ value i = (i ≤ length text) × (value < 2 ^ (4 * i)) × (word_from 0 text ≡ word_from value (drop i text))
+pub loop-i-init : goal.loop-i-init
+loop-i-init c = (omega arith, omega arith, refl)
 
-abbrev decreases-loop : tie.decreases-loop
-decreases-loop text value₀ i₀ value i = length text - i
+pub returns-then-d-eq16 : goal.returns-then-d-eq16
+returns-then-d-eq16 c =
+    let l = c.loop-i in
+    sym (l.invariant.2 ∙ stops l.value _ l.i c.loop-i-test.true (sym c.digit-d.ensures ∙ c.if-d-eq16.true))
 
-loop-holds : tie.Need-loop-init invariant-loop decreases-loop
-loop-holds c = (omega arith, omega arith, refl)
-
-returns : tie.Need-returns invariant-loop decreases-loop
-returns c =
-    let l = c.before.before.before.before.loop in
-    sym (l.invariant.2 ∙ stops l.value _ l.i c.before.before.before.loop-test.true (sym c.before.digit.ensures ∙ c.if1.true))
-
-mul_value : tie.Need-overflow-mul-value invariant-loop decreases-loop
-mul_value c =
-    let l = c.before.before.before.before.loop in
+pub overflow_mul-value : goal.overflow_mul-value
+overflow_mul-value c =
+    let l = c.loop-i in
     let f = fits (l.value * 16 + 0) l.i (longer l.value 0 l.i l.invariant.1 (omega arith)) (omega arith) in
     record { fits = omega arith }
 
-add-value : tie.Need-overflow-add-value invariant-loop decreases-loop
-add-value c =
-    let l = c.before.before.before.before.loop in
-    record { fits = fits (l.value * 16 + c.before.digit.result) l.i (longer l.value c.before.digit.result l.i l.invariant.1 (under _ _ c.before.digit.ensures c.if1.false)) (omega arith) }
+pub overflow_add-value : goal.overflow_add-value
+overflow_add-value c =
+    let l = c.loop-i in
+    record { fits = fits (l.value * 16 + c.digit-d.result) l.i (longer l.value c.digit-d.result l.i l.invariant.1 (under _ _ c.digit-d.ensures c.if-d-eq16.false)) (omega arith) }
 
-loop-again : tie.Need-loop-preserved invariant-loop decreases-loop
-loop-again c =
-    let l = c.before.before.before.before.loop in
-    let d = c.before.digit in
-    let text = c.before.before.before.before.before.before.args.text.now in
+pub loop-i-preserved : goal.loop-i-preserved
+loop-i-preserved c =
+    let l = c.loop-i in
+    let d = c.digit-d in
+    let text = c.args.text.now in
     let e = sym d.ensures in
     let further : word_from l.value (drop l.i text) ≡ word_from (l.value * 16 + d.result) (drop (l.i + 1) text) =
-    goes l.value text l.i c.before.before.before.loop-test.true (λ h. c.if1.false (d.ensures ∙ h)) ∙ ap (λ (k : ℕ). word_from (l.value * 16 + k) (drop (l.i + 1) text)) e in
-    (omega arith, longer l.value d.result l.i l.invariant.1 (under _ _ c.before.digit.ensures c.if1.false), l.invariant.2 ∙ further)
+    goes l.value text l.i c.loop-i-test.true (λ h. c.if-d-eq16.false (d.ensures ∙ h)) ∙ ap (λ (k : ℕ). word_from (l.value * 16 + k) (drop (l.i + 1) text)) e in
+    (omega arith, longer l.value d.result l.i l.invariant.1 (under _ _ c.digit-d.ensures c.if-d-eq16.false), l.invariant.2 ∙ further)
 
-returns-2 : tie.Need-returns-2 invariant-loop decreases-loop
-returns-2 c = let l = c.before.loop in sym (l.invariant.2 ∙ done l.value _ l.i c.loop-test.false)
-
-pub parse-spec : {M : Type 1} → statement M
-parse-spec =
-    tie.close
-    (tie.spec
-    invariant-loop
-    decreases-loop
-    loop-holds
-    (λ c. omega arith)
-    (λ c κs. search rules)
-    returns
-    mul_value
-    add-value
-    (λ c. omega arith)
-    (λ c. omega arith)
-    loop-again
-    returns-2)
+pub returns : goal.returns
+returns c = let l = c.loop-i in sym (l.invariant.2 ∙ done l.value _ l.i c.loop-i-test.false)
