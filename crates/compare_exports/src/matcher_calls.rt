@@ -169,6 +169,7 @@ fn fits_local(
 
 // The reference that a call's numbers make, and whether a search of it fits.
 #[derive(Drop)]
+#[derive(Clone, Copy)]
 struct Made {
     reference: Reference,
     fits: bool,

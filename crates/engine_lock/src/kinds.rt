@@ -3,6 +3,7 @@ use engine_spec::types::{Hypothesis, Lock, Maybe, Reached};
 use matcher_spec::types::MatchResult;
 
 #[derive(Drop)]
+#[derive(Clone, Copy)]
 pub struct Tracked {
     pub accepted: Hypothesis,
     pub supported: bool,
@@ -11,6 +12,7 @@ pub struct Tracked {
 }
 
 #[derive(Drop)]
+#[derive(Clone, Copy)]
 pub struct Searched {
     pub lock: Lock,
     pub reached: Reached,

@@ -4,16 +4,20 @@ use matcher_spec::limits::CANDIDATES_MOST;
 
 // ---- milliseconds, by what they are counted on: recorded sound, the reference, the clock
 #[derive(Drop)]
+#[derive(Clone, Copy)]
 pub struct RecordedMs(pub f64);
 
 #[derive(Drop)]
+#[derive(Clone, Copy)]
 pub struct ReferenceMs(pub f64);
 
 #[derive(Drop)]
+#[derive(Clone, Copy)]
 pub struct ClockMs(pub f64);
 
 // ---- what opening is given
 #[derive(Drop)]
+#[derive(Clone, Copy)]
 pub struct Configuration {
     pub minimum_readiness_duration_ms: f64,
     pub tracking_query_duration_ms: f64,
@@ -24,6 +28,7 @@ pub struct Configuration {
 
 // ---- what an answer shows
 #[derive(Drop)]
+#[derive(Clone, Copy)]
 pub enum State {
     Ready,
     Listening,
@@ -37,6 +42,7 @@ pub enum State {
 }
 
 #[derive(Drop)]
+#[derive(Clone, Copy)]
 pub enum LockPhase {
     None,
     Provisional,
@@ -45,6 +51,7 @@ pub enum LockPhase {
 }
 
 #[derive(Drop)]
+#[derive(Clone, Copy)]
 pub enum Stage {
     Readiness,
     LandmarkCoarse,
@@ -56,6 +63,7 @@ pub enum Stage {
 
 // Why no supported estimate is shown; `None` where one is.
 #[derive(Drop)]
+#[derive(Clone, Copy)]
 pub enum WithholdReason {
     None,
     InsufficientDuration,
@@ -71,6 +79,7 @@ pub enum WithholdReason {
 }
 
 #[derive(Drop)]
+#[derive(Clone, Copy)]
 pub enum Estimate {
     Absent,
     At {
@@ -82,18 +91,21 @@ pub enum Estimate {
 
 // A number that may be missing.
 #[derive(Drop)]
+#[derive(Clone, Copy)]
 pub enum Maybe {
     Absent,
     Is(f64),
 }
 
 #[derive(Drop)]
+#[derive(Clone, Copy)]
 pub enum Milestone {
     Absent,
     At(ClockMs),
 }
 
 #[derive(Drop)]
+#[derive(Clone, Copy)]
 pub struct SpectralDiagnostics {
     pub global_search: bool,
     pub correlation: f64,
@@ -106,6 +118,7 @@ pub struct SpectralDiagnostics {
 }
 
 #[derive(Drop)]
+#[derive(Clone, Copy)]
 pub struct CandidateDiagnostics {
     pub offset_ms: f64,
     pub coarse_offset_ms: f64,
@@ -115,6 +128,7 @@ pub struct CandidateDiagnostics {
 }
 
 #[derive(Drop)]
+#[derive(Clone, Copy)]
 pub struct Diagnostics {
     pub query_duration_ms: f64,
     pub active_frame_fraction: f64,
@@ -131,6 +145,7 @@ pub struct Diagnostics {
 }
 
 #[derive(Drop)]
+#[derive(Clone, Copy)]
 pub struct Snapshot {
     pub state: State,
     pub phase: LockPhase,
@@ -147,6 +162,7 @@ pub struct Snapshot {
 // ---- what a decision hands on
 // Which milestones are there: all that a decision knows of them.
 #[derive(Drop)]
+#[derive(Clone, Copy)]
 pub struct Reached {
     pub provisional: bool,
     pub confirmed: bool,
@@ -156,6 +172,7 @@ pub struct Reached {
 // What is said of the place: the state, why nothing supported is shown, the offset shown, how far the
 // local best lay from the track, and the coast.
 #[derive(Drop)]
+#[derive(Clone, Copy)]
 pub struct Verdict {
     pub state: State,
     pub reason: WithholdReason,
@@ -167,6 +184,7 @@ pub struct Verdict {
 // ---- the engine, nested by what changes together
 // Fixed at opening. Without index both counts and the start are 0.
 #[derive(Drop)]
+#[derive(Clone, Copy)]
 pub struct Settings {
     pub hop_ms: f64,
     pub reference_frames: u16,
@@ -176,6 +194,7 @@ pub struct Settings {
 
 // A place that sound speaks for.
 #[derive(Drop)]
+#[derive(Clone, Copy)]
 pub enum Hypothesis {
     Absent,
     Held {
@@ -189,6 +208,7 @@ pub enum Hypothesis {
 // What the lock rules carry from one computed answer to the next. The search time is minus
 // infinity before the first whole search.
 #[derive(Drop)]
+#[derive(Clone, Copy)]
 pub struct Lock {
     pub pending: Hypothesis,
     pub accepted: Hypothesis,
@@ -197,6 +217,7 @@ pub struct Lock {
 
 // When the first passing search was answered, and the first end of a chain.
 #[derive(Drop)]
+#[derive(Clone, Copy)]
 pub struct Milestones {
     pub first_provisional_ms: Milestone,
     pub confirmed_ms: Milestone,
@@ -204,6 +225,7 @@ pub struct Milestones {
 }
 
 #[derive(Drop)]
+#[derive(Clone, Copy)]
 pub enum Endpoint {
     Absent,
     At(RecordedMs),
@@ -211,6 +233,7 @@ pub enum Endpoint {
 
 // The last computed window's endpoint and snapshot. Without `has_snapshot` the snapshot is none.
 #[derive(Drop)]
+#[derive(Clone, Copy)]
 pub struct Last {
     pub endpoint_ms: Endpoint,
     pub has_snapshot: bool,
@@ -218,6 +241,7 @@ pub struct Last {
 }
 
 #[derive(Drop)]
+#[derive(Clone, Copy)]
 pub struct Engine {
     pub configuration: Configuration,
     pub settings: Settings,
@@ -230,6 +254,7 @@ pub struct Engine {
 // One case for each refusal, and one for none; numbers stand in specs/Refusals.antt. The last three
 // are of named places.
 #[derive(Drop)]
+#[derive(Clone, Copy)]
 pub enum Refusal {
     None,
     InvalidConfiguration,
@@ -251,6 +276,7 @@ pub enum Refusal {
 }
 
 #[derive(Drop)]
+#[derive(Clone, Copy)]
 pub enum Answer {
     Opened,
     Computed,
@@ -260,6 +286,7 @@ pub enum Answer {
 
 // Where opening is refused, `engine` is one that every submission refuses.
 #[derive(Drop)]
+#[derive(Clone, Copy)]
 pub struct OpenResult {
     pub answer: Answer,
     pub engine: Engine,
@@ -267,6 +294,7 @@ pub struct OpenResult {
 
 // Where a submission is refused, `engine` is the one handed in and `snapshot` is blank.
 #[derive(Drop)]
+#[derive(Clone, Copy)]
 pub struct SubmitResult {
     pub answer: Answer,
     pub engine: Engine,
@@ -275,6 +303,7 @@ pub struct SubmitResult {
 
 // The coast of the last computed answer, where it was Locked. Refused, or not Locked: absent.
 #[derive(Drop)]
+#[derive(Clone, Copy)]
 pub struct Age {
     pub refusal: Refusal,
     pub coast_ms: Maybe,

@@ -9,6 +9,7 @@ use matcher_spec::limits::CANDIDATES_MOST;
 
 // A place and the score there.
 #[derive(Drop)]
+#[derive(Clone, Copy)]
 pub struct Maximum {
     pub at: usize,
     pub score: f64,
@@ -37,6 +38,7 @@ pub fn first_maximum(scores: &[f64]) -> Maximum
 
 // Places in the order in which they were picked.
 #[derive(Drop)]
+#[derive(Clone, Copy)]
 pub struct Picked {
     pub at: [usize; CANDIDATES_MOST],
     pub count: usize,

@@ -3,6 +3,7 @@ use crate::limits::CANDIDATES_MOST;
 
 // What a search knows of its reference besides the buffers.
 #[derive(Drop)]
+#[derive(Clone, Copy)]
 pub struct Reference {
     pub bands: usize,
     pub frames: usize,
@@ -12,6 +13,7 @@ pub struct Reference {
 
 // A candidate maps capture time to reference time by adding `offset_ms`.
 #[derive(Drop)]
+#[derive(Clone, Copy)]
 pub struct Candidate {
     pub offset_ms: f64,
     pub score: f64,
@@ -22,6 +24,7 @@ pub struct Candidate {
 
 // The first `count` candidates, the best first.
 #[derive(Drop)]
+#[derive(Clone, Copy)]
 pub struct MatchResult {
     pub candidates: [Candidate; CANDIDATES_MOST],
     pub count: usize,

@@ -1,5 +1,6 @@
 // What filling a load answers.
 #[derive(Drop)]
+#[derive(Clone, Copy)]
 pub enum Filling {
     Filled,
     SeedZero,

@@ -1,0 +1,11 @@
+-- `engine_layout::options::milestone_tag` meets its contract. Assumes nothing.
+use Rattle.engine_layout.specs.Written.{milestone_tag}
+use Rattle.engine_layout.proofs.options.milestone_tag.Goals as goal
+
+pub returns-in-Absent : goal.returns-in-Absent
+unfolding milestone_tag
+returns-in-Absent c = simp c.in-Absent.is
+
+pub returns-in-At : goal.returns-in-At
+unfolding milestone_tag
+returns-in-At c = simp c.in-At.is

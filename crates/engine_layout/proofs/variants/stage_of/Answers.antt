@@ -1,0 +1,32 @@
+-- `engine_layout::variants::stage_of` meets its contract. Assumes nothing.
+use borrow.Author.Tests.{eq-eqb, ne_eqb}
+use Rattle.engine_layout.specs.Layout.{stage_of}
+use Rattle.engine_layout.proofs.variants.stage_of.Goals as goal
+
+pub returns-then-n-eq0 : goal.returns-then-n-eq0
+unfolding stage_of
+returns-then-n-eq0 c = simp (eq-eqb _ _ c.if-n-eq0.true)
+
+pub returns-then-n-eq1 : goal.returns-then-n-eq1
+unfolding stage_of
+returns-then-n-eq1 c = simp (ne_eqb _ _ c.if-n-eq0.false, eq-eqb _ _ c.if-n-eq1.true)
+
+pub returns-then-n-eq2 : goal.returns-then-n-eq2
+unfolding stage_of
+returns-then-n-eq2 c =
+    simp (ne_eqb _ _ c.if-n-eq0.false, ne_eqb _ _ c.if-n-eq1.false, eq-eqb _ _ c.if-n-eq2.true)
+
+pub returns-then-n-eq3 : goal.returns-then-n-eq3
+unfolding stage_of
+returns-then-n-eq3 c =
+    simp (ne_eqb _ _ c.if-n-eq0.false, ne_eqb _ _ c.if-n-eq1.false, ne_eqb _ _ c.if-n-eq2.false, eq-eqb _ _ c.if-n-eq3.true)
+
+pub returns-then-n-eq4 : goal.returns-then-n-eq4
+unfolding stage_of
+returns-then-n-eq4 c =
+    simp (ne_eqb _ _ c.if-n-eq0.false, ne_eqb _ _ c.if-n-eq1.false, ne_eqb _ _ c.if-n-eq2.false, ne_eqb _ _ c.if-n-eq3.false, eq-eqb _ _ c.if-n-eq4.true)
+
+pub returns : goal.returns
+unfolding stage_of
+returns c =
+    simp (ne_eqb _ _ c.if-n-eq0.false, ne_eqb _ _ c.if-n-eq1.false, ne_eqb _ _ c.if-n-eq2.false, ne_eqb _ _ c.if-n-eq3.false, ne_eqb _ _ c.if-n-eq4.false)
