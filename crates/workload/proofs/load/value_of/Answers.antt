@@ -13,8 +13,7 @@ use lib.Ieee.Exact.{HasValue}
 use lib.Ieee.Fits.{down_pos}
 use lib.Ieee.Scale.{round_same}
 use Rattle.workload_spec.specs.Load.{load_value}
-use Rattle.workload.proofs.load.value_of.Statement.{statement}
-use Rattle.workload.proofs.load.value_of.Tie as tie
+use Rattle.workload.proofs.load.value_of.Goals as goal
 
 -- k / 256, of a float that is k
 quotient : (x : Float) (k : ℕ) → HasValue x false k 1 → div binary32 x (fin false 1 (pos 8)) ≡ round binary32 false k 256
@@ -27,17 +26,14 @@ quotient (fin false m e) k v = round_same binary32 false (m * up e * 1) (1 * 256
     over : (a d : ℕ) → a * 1 ≡ k * d → a * 1 * 256 ≡ k * (1 * 256 * d)
     over a d e = omega arith
 
-int-to-float-result : tie.Need-int-to-float-result
-unfolding in_float
-int-to-float-result c = le→leb (c.before.args.n % 4096) 16777216 (omega arith)
-
 yielded : (n : ℕ) → div binary32 (of_int binary32 (pos (n % 4096))) (fin false 1 (pos 8)) ≡ load_value n
 unfolding load_value of_int
 yielded n = quotient (round binary32 false (n % 4096) 1) (n % 4096) (round_whole binary32 false (n % 4096) (omega arith))
 
-returns : tie.Need-returns
+pub int_to_float-result : goal.int_to_float-result
+unfolding in_float
+int_to_float-result c = le→leb (c.args.n % 4096) 16777216 (omega arith)
+
+pub returns : goal.returns
 unfolding of_bits of_fields odd count_trailing_zeros
 returns c = yielded _
-
-pub value-of-spec : {M : Type 1} → statement M
-value-of-spec = tie.close (tie.spec int-to-float-result returns)
