@@ -4,14 +4,10 @@ use mathlib.Core.Path.{◌≡◌, sym}
 use lib.ListN.{length}
 use lib.Seq.{length-take-le}
 use Rattle.matcher_spec.proofs.CandidateLaws.{eight}
-use Rattle.engine_snapshot.proofs.candidates.found_count.Statement.{statement}
-use Rattle.engine_snapshot.proofs.candidates.found_count.Tie as tie
+use Rattle.engine_snapshot.proofs.candidates.found_count.Goals as goal
 
-returns : tie.Need-returns
+pub returns : goal.returns
 returns c =
     let r = c.args.found in
-    let e : length r.candidates ≡ 8 = eight r _ c.well-formed.0 in
+    let e : length r.candidates ≡ 8 = eight r _ c.well_formed.0 in
     sym (length-take-le r.count r.candidates (omega arith))
-
-pub found-count-spec : {M : Type 1} → statement M
-found-count-spec = tie.close (tie.spec returns)
