@@ -16,7 +16,7 @@ returns-then-not-made c =
 pub local_search-found-requires : goal.local_search-found-requires
 local_search-found-requires c =
     let a = c.args in
-    let x = reference_of a.reference-bands a.frames a.start a.hop in
+    let x = reference_of a.reference_bands a.frames a.start a.hop in
     let w = features a.bands a.times.now a.values.now in
     let r = search_room x a.fine.now a.energy.now w a.work32.now a.work64.now a.out.now c.made_reference-made.ensures.reference_value c.made_reference-made.ensures.fits_value c.if-not-made.false in
     record { in_range = r.reference; holds = r.index; values_len_1 = r.window; values_len_2 = r.work }
@@ -24,14 +24,14 @@ local_search-found-requires c =
 pub write_candidates-requires : goal.write_candidates-requires
 write_candidates-requires c =
     let a = c.args in
-    let x = reference_of a.reference-bands a.frames a.start a.hop in
+    let x = reference_of a.reference_bands a.frames a.start a.hop in
     let w = features a.bands a.times.now a.values.now in
     (search_room x a.fine.now a.energy.now w a.work32.now a.work64.now a.out.now c.made_reference-made.ensures.reference_value c.made_reference-made.ensures.fits_value c.if-not-made.false).numbers
 
 pub returns : goal.returns
 returns c =
     let a = c.args in
-    let x = reference_of a.reference-bands a.frames a.start a.hop in
+    let x = reference_of a.reference_bands a.frames a.start a.hop in
     let w = features a.bands a.times.now a.values.now in
     let found = subst (λ (z : Reference). c.local_search-found.result ≡ result_of (found_near z a.fine.now a.energy.now w a.lower a.upper)) {y = x} c.made_reference-made.ensures.reference_value c.local_search-found.ensures.value in
     let t = search_answers (found_near x a.fine.now a.energy.now w a.lower a.upper) a.out.now (passed {x = fits_local x a.fine.now a.energy.now w (length a.work32.now) (length a.work64.now) (length a.out.now)} c.made_reference-made.ensures.fits_value c.if-not-made.false) found c.write_candidates.ensures in record { value = t.0; out_after = t.1 }

@@ -20,7 +20,7 @@ returns-then-not-made c =
 pub fits_bands-requires : goal.fits_bands-requires
 fits_bands-requires c =
     let a = c.args in
-    let x = reference_of a.reference-bands a.frames a.start a.hop in
+    let x = reference_of a.reference_bands a.frames a.start a.hop in
     let w = features a.bands a.times.now a.values.now in
     let r = search_room x a.fine.now a.fine_energy.now w a.work32.now a.work64.now a.out.now refl c.made_reference-made.ensures.fits_value c.if-not-made.false in
     record { fact_1 = r.reference.few; fact_2 = let short = r.reference.short in omega arith }
@@ -29,7 +29,7 @@ pub returns-then-not-fits_bands : goal.returns-then-not-fits_bands
 unfolding fits_whole
 returns-then-not-fits_bands c =
     let a = c.args in
-    let x = reference_of a.reference-bands a.frames a.start a.hop in
+    let x = reference_of a.reference_bands a.frames a.start a.hop in
     let w = features a.bands a.times.now a.values.now in
     let t = passed {x = fits_local x a.fine.now a.fine_energy.now w (length a.work32.now) (length a.work64.now) (length a.out.now)} c.made_reference-made.ensures.fits_value c.if-not-made.false in
     let f = failed {x = fits_bands x.bands (x.frames / 4) (length a.coarse.now) (length a.coarse_energy.now)} c.fits_bands.ensures c.if-not-fits_bands.true-raw in
@@ -38,7 +38,7 @@ returns-then-not-fits_bands c =
 pub whole_search-found-requires : goal.whole_search-found-requires
 whole_search-found-requires c =
     let a = c.args in
-    let x = reference_of a.reference-bands a.frames a.start a.hop in
+    let x = reference_of a.reference_bands a.frames a.start a.hop in
     let w = features a.bands a.times.now a.values.now in
     let r = search_room x a.fine.now a.fine_energy.now w a.work32.now a.work64.now a.out.now c.made_reference-made.ensures.reference_value c.made_reference-made.ensures.fits_value c.if-not-made.false in
     record { in_range = r.reference; holds = r.index; holds_2 = coarse_room_lem x a.coarse.now a.coarse_energy.now c.made_reference-made.ensures.reference_value c.fits_bands.ensures c.if-not-fits_bands.false-raw; values_len_1 = r.window; values_len_2 = r.work }
@@ -46,7 +46,7 @@ whole_search-found-requires c =
 pub write_candidates-requires : goal.write_candidates-requires
 write_candidates-requires c =
     let a = c.args in
-    let x = reference_of a.reference-bands a.frames a.start a.hop in
+    let x = reference_of a.reference_bands a.frames a.start a.hop in
     let w = features a.bands a.times.now a.values.now in
     (search_room x a.fine.now a.fine_energy.now w a.work32.now a.work64.now a.out.now c.made_reference-made.ensures.reference_value c.made_reference-made.ensures.fits_value c.if-not-made.false).numbers
 
@@ -54,7 +54,7 @@ pub returns : goal.returns
 unfolding fits_whole
 returns c =
     let a = c.args in
-    let x = reference_of a.reference-bands a.frames a.start a.hop in
+    let x = reference_of a.reference_bands a.frames a.start a.hop in
     let w = features a.bands a.times.now a.values.now in
     let index = lent a.fine.now a.coarse.now a.fine_energy.now a.coarse_energy.now in
     let t = passed {x = fits_local x a.fine.now a.fine_energy.now w (length a.work32.now) (length a.work64.now) (length a.out.now)} c.made_reference-made.ensures.fits_value c.if-not-made.false in
