@@ -1,5 +1,4 @@
 -- `matcher_scores::scores::correlations` meets its contract. Assumes nothing.
-use borrow.Author.Rules.{rules}
 use mathlib.Core.List.{List}
 use mathlib.Core.Path.{◌≡◌, ◌∙◌}
 use Prim.Native.Nat.{ℕ, ◌+◌}
@@ -10,8 +9,7 @@ use Rattle.numbers_spec.specs.Rows.{tabulate, sum_to}
 use Rattle.matcher_spec.specs.Energy.{Bands, bands_of}
 use Rattle.matcher_spec.specs.Scores.{correlations, correlation_at, term_at}
 use Rattle.numbers_spec.proofs.RowLaws.{tabulate_then}
-use Rattle.matcher_scores.proofs.scores.correlations.Statement.{statement}
-use Rattle.matcher_scores.proofs.scores.correlations.Tie as tie
+use Rattle.matcher_scores.proofs.scores.correlations.Goals as goal
 
 -- the sums over the bands times 1 / bands
 scaled_sums : (bands : ℕ) (reference : Bands) (count : ℕ) (query whole : List Float) (low n : ℕ) {d : Float} {sums new : List Float}
@@ -23,14 +21,9 @@ scaled_sums bands reference count query whole low n {d} p q e =
     ∙ tabulate_then (λ (i : ℕ). sum_to (term_at reference count query whole (low + i)) bands) (λ (i : ℕ) (s : Float). s ⊗ (one ⊘ d)) nan n q
     ∙ simp e
 
-returns : tie.Need-returns
+pub returns : goal.returns
 unfolding of_bits
 returns c =
-    let summed = c.before.before.before.before.before.before.before in
-    let a = summed.before.before.before.before.before.before.before.args in
+    let a = c.args in
     scaled_sums a.bands (bands_of a.frames a.reference.now a.energy.now) a.count a.query.now a.whole.now a.low (length a.scores.now)
-    c.before.before.scale.ensures summed.sum-bands.ensures c.before.before.before.real.ensures
-
-pub correlations-spec : {M : Type 1} → statement M
-correlations-spec =
-    tie.close (tie.spec (λ c κs. search rules) (λ c κs. search rules) (λ c κs. search rules) (λ c. search rules) returns)
+    c.scale.ensures c.sum_bands.ensures c.real.ensures

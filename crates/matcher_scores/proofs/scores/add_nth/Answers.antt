@@ -1,5 +1,4 @@
 -- `matcher_scores::scores::add_nth` meets its contract. Assumes nothing.
-use borrow.Author.Rules.{rules}
 use mathlib.Core.List.{List}
 use mathlib.Core.Path.{◌≡◌, ◌∙◌}
 use Prim.Native.Nat.{ℕ, ◌+◌, ◌-◌, ◌*◌}
@@ -11,8 +10,7 @@ use Rattle.numbers_spec.specs.Arithmetic.{◌⊕◌, at_least}
 use Rattle.numbers_spec.specs.Rows.{tabulate}
 use Rattle.matcher_spec.specs.Energy.{bands_of}
 use Rattle.matcher_spec.specs.Scores.{band_term, term_at, variance_floor}
-use Rattle.matcher_scores.proofs.scores.add_nth.Statement.{statement}
-use Rattle.matcher_scores.proofs.scores.add_nth.Tie as tie
+use Rattle.matcher_scores.proofs.scores.add_nth.Goals as goal
 
 -- the parts that are lent are the band's rows
 nth_added : (scores reference energy query whole : List Float) (frames count low b n : ℕ) (new : List Float) {floor wholeEnergy : Float}
@@ -27,46 +25,8 @@ nth_added : (scores reference energy query whole : List Float) (frames count low
 unfolding term_at
 nth_added scores reference energy query whole frames count low b n new p f w = p ∙ simp (add-sub_cancel_left, add-one, w, f)
 
-returns : tie.Need-returns
+pub returns : goal.returns
 returns c =
-    let at = c.before.before.before.before.before.before.before.before in
-    let least = at.before.before.before.before.before.before.before.before in
-    let floor = least.before.before in
-    let a = floor.before.before.before.before.before.before.before.before.before.args in
+    let a = c.args in
     nth_added a.scores.now a.reference.now a.energy.now a.query.now a.whole.now a.frames a.count a.low a.b (length a.scores.now)
-    at.add-band.new.0 at.add-band.ensures floor.variance-floor.ensures least.at_least_lem.ensures
-
-pub add-nth-spec : {M : Type 1} → statement M
-add-nth-spec =
-    tie.close
-    (tie.spec
-    (λ c. search rules)
-    (λ c. search rules)
-    (λ c. search rules)
-    (λ c. search rules)
-    (λ c. search rules)
-    (λ c. search rules)
-    (λ c. search rules)
-    (λ c. search rules)
-    (λ c κs. search rules)
-    (λ c. search rules)
-    (λ c. search rules)
-    (λ c κs. search rules)
-    (λ c. search rules)
-    (λ c. search rules)
-    (λ c. search rules)
-    (λ c. search rules)
-    (λ c. search rules)
-    (λ c. search rules)
-    (λ c. search rules)
-    (λ c. search rules)
-    (λ c. search rules)
-    (λ c. search rules)
-    (λ c. search rules)
-    (λ c. search rules)
-    (λ c κs. search rules)
-    (λ c. search rules)
-    (λ c. search rules)
-    (λ c. search rules)
-    (λ c. search rules)
-    returns)
+    c.add_band.new.scores c.add_band.ensures c.variance_floor-floor.ensures c.at_least-whole_energy.ensures
