@@ -2,23 +2,15 @@
 use Rattle.std.proofs.Common.{ℕ, ◌%◌, T, pos, arith, le→leb, rules}
 use lib.Ieee.{binary32, div, in_float}
 use Rattle.matcher_replay.specs.Sounds.{value_at}
-use Rattle.matcher_replay.proofs.sound.value_at.Statement.{statement}
-use Rattle.matcher_replay.proofs.sound.value_at.Tie as tie
+use Rattle.matcher_replay.proofs.sound.value_at.Goals as goal
 
 whole : (n : ℕ) → T (in_float binary32 (pos (n % 4096)))
 unfolding in_float
 whole n = le→leb (n % 4096) 16777216 (omega arith)
 
-pub value-at-spec : {M : Type 1} → statement M
+pub int_to_float-step : goal.int_to_float-step
+int_to_float-step c = whole _
+
+pub returns : goal.returns
 unfolding div value_at
-value-at-spec =
-    tie.close
-    (tie.spec
-    (λ c. search rules)
-    (λ c. search rules)
-    (λ c. search rules)
-    (λ c. search rules)
-    (λ c. search rules)
-    (λ c. search rules)
-    (λ c. whole _)
-    (λ c. search rules))
+returns c = search rules
