@@ -5,22 +5,19 @@ use mathlib.Core.List.{List, [], ◌∷◌, ◌++◌}
 use mathlib.Core.Path.{◌≡◌, refl, sym, ap, ◌∙◌, subst}
 use lib.Dec.{T, eqb, eqb→eq, eqb_refl}
 use lib.ListN.{length, replicate, length-replicate}
-use Rattle.matcher_spec.specs.Index.{Matcher}
 use Rattle.engine_spec.specs.Windows.{Submission}
 use Rattle.engine_spec.specs.Refusals.{refuses}
 use Rattle.engine_spec.specs.Submitting.{submit}
-use Rattle.engine_spec.specs.Lists.{Answered}
 use Rattle.engine_spec.specs.Sessions.{Start, Past, settings_of, matcher_of, fresh_of, state_of, further, Proper, Turn, answers_of, AllProper, nothing, submission, return}
-use Rattle.engine_spec.specs.declared.types.Settings.{Settings}
 use Rattle.engine_spec.specs.declared.types.Engine.{Engine}
 use Rattle.engine_spec.proofs.Submissions.{answered_by}
 use Rattle.engine_spec.proofs.Sessions.{after_more, proper_more, guarantee_of_sessions}
 use Rattle.engine_layout.specs.Layout.{state_in}
-use Rattle.engine_layout.specs.Written.{state_as_words, ReadsBack}
+use Rattle.engine_layout.specs.Written.{ReadsBack}
 use Rattle.places_spec.specs.Places.{is_name, place_in, is_kept, keep_refusal, kept, restored}
-use Rattle.places_spec.specs.OneStore.{Call, submit_it, keep_as, restore_from, answers_asked, AllAsked, nothing, submitted, kept_as, restored_from, Mark, none, some, no_marks, marked, turn_to, past_at, turns_asked, IsSession, OwnStore}
+use Rattle.places_spec.specs.OneStore.{Call, submit_it, keep_as, restore_from, answers_asked, AllAsked, nothing, submitted, kept_as, restored_from, Mark, none, some, no_marks, marked, turn_to, past_at, turns_asked, OwnStore}
 use Rattle.places_spec.specs.declared.types.Restored.{Restored}
-use Rattle.places_spec.proofs.Places.{given_is, given_kept, given_empty, given_refused, kept_new, kept_refused, kept_place, kept_there, others_stay, named, zero_place}
+use Rattle.places_spec.proofs.Places.{given_is, given_kept, given_empty, given_refused, kept_refused, kept_place, kept_there, others_stay, named, zero_place}
 
 -- ---- a place and its mark
 abbrev past_of : Start → List Submission → Past

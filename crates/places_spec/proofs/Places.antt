@@ -1,24 +1,21 @@
 -- Named places: what keeping leaves, and what is given back (specs/PlaceLaws.antt). Assumes nothing.
 use Prim.Native.Nat.{ℕ, zero, suc, ◌+◌, ◌-◌, ◌≤◌, ◌<◌}
-use mathlib.Core.Bool.{Bool, true, false, cond, not, ◌&&◌}
+use mathlib.Core.Bool.{Bool, true, false, cond, not}
 use mathlib.Core.List.{List, ◌++◌}
-use mathlib.Core.Logic.{◌⊎◌, inl, inr}
 use mathlib.Core.Path.{◌≡◌, refl, sym, ap, ◌∙◌, subst}
 use native.Mathlib.Omega.{arith}
 use borrow.Author.Tests.{le-leb}
 use lib.Dec.{T, leb, ltb, eqb, leb→le, ltb→lt, nltb→le, lit<}
-use lib.ListN.{length, take, drop, get_or, replicate, length-append, length-drop, length-replicate, take-append-drop, get_or-replicate}
+use lib.ListN.{length, take, drop, get_or, replicate, length-append, length-drop, length-replicate, take-append-drop}
 use lib.Seq.{length-take-le, drop-drop, get_or-take, get_or-drop}
-use Rattle.engine_spec.specs.Windows.{Submission}
 use Rattle.engine_spec.specs.Refusals.{number_of, refuses, unless, ◌then◌}
 use Rattle.engine_spec.specs.Lists.{answers_to}
 use Rattle.engine_spec.specs.declared.types.Engine.{Engine}
-use Rattle.engine_spec.specs.declared.types.Refusal.{Refusal}
 use Rattle.engine_spec.specs.declared.types.Refusal.TheVariants as refusal
 use Rattle.engine_spec.proofs.Tests.{and_l, and_r}
 use Rattle.engine_spec.proofs.Submissions.{clash}
-use Rattle.engine_layout.specs.Layout.{layout, state_words, part, state_in}
-use Rattle.engine_layout.specs.Written.{placed, state_as_words, ReadsBack}
+use Rattle.engine_layout.specs.Layout.{layout, part, state_in}
+use Rattle.engine_layout.specs.Written.{placed, state_as_words}
 use Rattle.engine_layout.proofs.Laws.{front_part, placed_part, placed_tail}
 use Rattle.engine_layout.proofs.Lengths.{engine_long}
 use Rattle.places_spec.specs.Places.{places_most, is_name, place_start, store_words, place_in, is_kept, keep_refusal, restore_refusal, kept_words, kept, restored}

@@ -1,5 +1,5 @@
 -- A session over one store that begins with zeros and that nobody else writes: each restore is refused or gives a state that the session kept. So it is a session such as the guarantee speaks of (engine_spec, Sessions). Definitions only.
-use Rattle.std.specs.Prelude.{ℕ, false, cond, ◌&&◌, List, [], ◌∷◌, ◌++◌, ◌≡◌, eqb, length, replicate}
+use Rattle.std.specs.Prelude.{ℕ, false, cond, List, [], ◌∷◌, ◌++◌, ◌≡◌, eqb, length, replicate}
 use Rattle.matcher_spec.specs.Index.{Matcher}
 use Rattle.engine_spec.specs.Windows.{Submission}
 use Rattle.engine_spec.specs.Refusals.{refuses}

@@ -15,5 +15,8 @@ best_of-best-requires c =
 
 pub returns : goal.returns
 returns c =
-    record { result_value = c.passed.ensures.result_value
-      ∙ rw c.first_evidence-first.ensures (whole_passed _ _ _ _ _ _ _ _ c.best_of-best.ensures (sym c.is_passing.ensures ∙ not-false _ c.if-not-is_passing.false-raw)); found_value = c.passed.ensures.found_value }
+    record {
+      result_value = c.passed.ensures.result_value
+          ∙ rw c.first_evidence-first.ensures (whole_passed _ _ _ _ _ _ _ _ c.best_of-best.ensures (sym c.is_passing.ensures ∙ not-false _ c.if-not-is_passing.false-raw));
+      found_value = c.passed.ensures.found_value;
+    }

@@ -1,0 +1,18 @@
+use mathlib.Core.Path.{refl}
+use native.Mathlib.Omega.{arith}
+use lib.Ieee.{of_bits, neg}
+use Rattle.numbers_spec.proofs.RowLaws.{filling_none, filling_more, filling_all}
+use Rattle.workload.proofs.load.fill_energies.Goals as goal
+
+pub loop-i-init : goal.loop-i-init
+loop-i-init c = filling_none _ _
+
+pub loop-i-preserved : goal.loop-i-preserved
+unfolding of_bits neg
+loop-i-preserved c = filling_more c.loop-i.invariant refl (omega arith)
+
+pub shape_of-energies : goal.shape_of-energies
+shape_of-energies c = c.loop-i.invariant.size
+
+pub returns : goal.returns
+returns c = filling_all c.loop-i.invariant (omega arith)
