@@ -5,7 +5,7 @@ ghost use Rattle.std.specs.Prelude.{◌<◌};
 // What is heard of a reference: frame 0 of the window is the reference's frame `from`. Before the
 // window's frame `since` and from `until` on something else is heard, and beside the reference
 // too: noise % 64 parts of 64. Which sound it is noise / 64 says.
-#[derive(Drop)]
+#[derive(Clone, Copy)]
 pub struct Heard {
     pub from: usize,
     pub since: usize,

@@ -14,7 +14,7 @@ pub struct Answers {
 }
 
 // In what a line and the engine agree.
-#[derive(Drop)]
+#[derive(Clone, Copy)]
 pub struct Agreement {
     pub answer: bool,
     pub state: bool,

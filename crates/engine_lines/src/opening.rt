@@ -23,7 +23,7 @@ pub const VALUES: usize = BANDS * FRAMES;
 
 // What makes a reference. `fault` and `at` say what is wrong with it, see faults.rt. The index
 // buffers are lent whole: some references need longer ones.
-#[derive(Drop)]
+#[derive(Clone, Copy)]
 pub struct Opening {
     pub seed: u64,
     pub hop: f64,

@@ -30,7 +30,7 @@ const WORK64: usize = 3 * BANDS * (FRAMES + 1) + opening::FRAMES;
 
 // What makes a window, and what comes with it. `fault` and `at` say what is wrong with it, see
 // faults.rt.
-#[derive(Drop)]
+#[derive(Clone, Copy)]
 pub struct Submission {
     pub begin: f64,
     pub frames: usize,

@@ -13,6 +13,8 @@ use engine_lines::line::LINE;
 use engine_lines::{opening, submission};
 use engine_words::states::STATE_WORDS;
 use hexadecimal::word_at;
+use std::io;
+use std::io::{Read, Stdout};
 
 // The index of the longest reference that is opened.
 const FINE: usize = opening::VALUES;
@@ -31,19 +33,24 @@ struct Tally {
     differ: usize,
 }
 
-// The buffer holds 257 lines and a byte, so a list that is too long ends in a line that is cut off,
-// which counts as one that differs.
-fn main() {
-    let mut list = io::large_buffer();
-    let size = io::read_full(libc::STDIN_FILENO, &mut list);
-    let tally = replay(&list[..size]);
-    print(tally.sessions, b" sessions, ");
-    print(tally.submissions, b" submissions replayed, ");
-    print(tally.differ, b" differ\n");
+// The bytes of a list, at most: 257 lines and a byte, so a list that is too long ends in a line that
+// is cut off, which counts as one that differs.
+const LIST: usize = 65536;
+
+// Fails where the list cannot be read, or what it came to cannot be written.
+fn main(rt: HostRuntime) -> io::Result<()> {
+    let out = rt.stdout();
+    let mut list = Vec::new(rt.alloc());
+    rt.stdin().take(LIST as u64).read_to_end(&mut list)?;
+    list.truncate(LIST);
+    let tally = replay(out, &list);
+    print(out, tally.sessions, " sessions, ")?;
+    print(out, tally.submissions, " submissions replayed, ")?;
+    print(out, tally.differ, " differ\n")
 }
 
 // One state and one index for all sessions, one after the other.
-fn replay(list: &[u8]) -> Tally
+fn replay(out: Stdout, list: &[u8]) -> Tally
     requires { length list.now ≤ list_most }
 {
     let mut state = [0u64; STATE_WORDS];
@@ -52,6 +59,7 @@ fn replay(list: &[u8]) -> Tally
     let mut fine_energy = [0.0f64; FINE_ENERGY];
     let mut coarse_energy = [0.0f64; COARSE_ENERGY];
     replay_in(
+        out,
         list,
         &mut state,
         &mut fine,
@@ -63,6 +71,7 @@ fn replay(list: &[u8]) -> Tally
 
 // Line after line; `session` is where the last line stands that opened one.
 fn replay_in(
+    out: Stdout,
     list: &[u8],
     state: &mut [u64],
     fine: &mut [f32],
@@ -81,6 +90,7 @@ fn replay_in(
         let opened = opens_at(list, at);
         session = session_at(list, at, session);
         differ += differs_at(
+            out,
             list,
             at,
             session,
@@ -94,7 +104,7 @@ fn replay_in(
         submissions += 1 - opened;
         at += LINE;
     }
-    differ += cut_off(list.len() - at, at);
+    differ += cut_off(out, list.len() - at, at);
     Tally {
         sessions,
         submissions,
@@ -125,8 +135,10 @@ fn session_at(list: &[u8], at: usize, session: usize) -> usize
     session
 }
 
-// 1 where the line that starts at `at` differs, which is written, and 0 where it agrees.
+// 1 where the line that starts at `at` differs, which is written, and 0 where it agrees. One that
+// cannot be written counts all the same.
 fn differs_at(
+    out: Stdout,
     list: &[u8],
     at: usize,
     session: usize,
@@ -150,11 +162,11 @@ fn differs_at(
         fine_energy,
         coarse_energy,
     );
-    differs(&list[at..end], at / LINE + 1, found)
+    differs(out, &list[at..end], at / LINE + 1, found)
 }
 
 // 1 where the line says other answers, which is written, and 0 where it says these.
-fn differs(line: &[u8], number: usize, found: Answers) -> usize
+fn differs(out: Stdout, line: &[u8], number: usize, found: Answers) -> usize
     requires { length line.now ≡ line_bytes }
     ensures value { result ≡ cond (in_all (agreement_with line.now found)) 0 1 }
     ensures upper_bound { result ≤ 1 }
@@ -163,7 +175,7 @@ fn differs(line: &[u8], number: usize, found: Answers) -> usize
     if agrees(agreement) {
         return 0;
     }
-    report(number, agreement);
+    let _ = report(out, number, agreement);
     1
 }
 
@@ -189,36 +201,36 @@ fn answers_to(
 }
 
 // Writes which line differs, and in what.
-fn report(number: usize, agreement: Agreement) {
-    io::write_all(libc::STDOUT_FILENO, b"line ");
-    print(number, b" differs:");
-    name(agreement.answer, b" answer");
-    name(agreement.state, b" state");
-    name(agreement.shown, b" snapshot");
-    io::write_all(libc::STDOUT_FILENO, b"\n");
+fn report(out: Stdout, number: usize, agreement: Agreement) -> io::Result<()> {
+    out.print("line ")?;
+    print(out, number, " differs:")?;
+    name(out, agreement.answer, " answer")?;
+    name(out, agreement.state, " state")?;
+    name(out, agreement.shown, " snapshot")?;
+    out.print("\n")
 }
 
 // Writes what differs, unless it agrees.
-fn name(same: bool, words: &[u8]) {
+fn name(out: Stdout, same: bool, words: &str) -> io::Result<()> {
     if !same {
-        io::write_all(libc::STDOUT_FILENO, words);
+        out.print(words)?;
     }
+    Ok(())
 }
 
 // 1 where bytes are left that are no whole line, which is written, and 0 where none are.
-fn cut_off(left: usize, at: usize) -> usize
+fn cut_off(out: Stdout, left: usize, at: usize) -> usize
     ensures { result ≤ 1 }
 {
     if left == 0 {
         return 0;
     }
-    io::write_all(libc::STDOUT_FILENO, b"cut off after line ");
-    print(at / LINE, b"\n");
+    let _ = out.print("cut off after line ");
+    let _ = print(out, at / LINE, "\n");
     1
 }
 
 // Writes a number and the words after it.
-fn print(number: usize, words: &[u8]) {
-    io::print_decimal(libc::STDOUT_FILENO, number as u64);
-    io::write_all(libc::STDOUT_FILENO, words);
+fn print(out: Stdout, number: usize, words: &str) -> io::Result<()> {
+    print!(out; "{number}{words}")
 }

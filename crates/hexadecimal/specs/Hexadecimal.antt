@@ -13,7 +13,7 @@ word_from n [] = Is n
 word_from n (byte ∷ bytes) = cond (eqb (digit_of byte) 16) Malformed (word_from (n * 16 + digit_of byte) bytes)
 
 -- ---- lists of lines
--- The bytes of a list, at most: as many as a program that replays one reads (io's large buffer).
+-- The bytes of a list, at most: as many as a program that replays one reads (its constant LIST).
 abbrev pub list_most : ℕ
 list_most = 65536
 

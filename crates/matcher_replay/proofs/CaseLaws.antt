@@ -1,5 +1,5 @@
 -- What a case within the limits gives: its numbers' bounds, and that its bands fit the arrays. Assumes nothing.
-use Rattle.std.proofs.Common.{◌≡◌, ℕ, ◌+◌, ◌*◌, ◌/◌, ◌<◌, ◌≤◌, Bool, true, ◌&&◌, mul-le-mul, arith, ltb-true, leb-true}
+use Rattle.std.proofs.Common.{◌≡◌, ℕ, ◌+◌, ◌*◌, ◌/◌, ◌<◌, ◌≤◌, true, mul-le-mul, arith, ltb-true, leb-true}
 use Rattle.matcher_spec.specs.Centring.{wide_hop}
 use Rattle.matcher_spec.proofs.Cases.{both}
 use Rattle.matcher_replay.specs.Cases.{case_bands, case_frames, case_window, coarse_room, coarse_energy_room, fine_room, fine_energy_room, is_small, seeds_end, window_room}

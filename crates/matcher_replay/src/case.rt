@@ -17,7 +17,7 @@ const SEEDS_END: u64 = 65536;
 
 // What makes a case. The window is cut out of the reference at the frame `from`, and the local
 // search looks `reach` ms to either side of it.
-#[derive(Drop)]
+#[derive(Clone, Copy)]
 pub struct Case {
     pub seed: u64,
     pub hop: f64,

@@ -13,43 +13,52 @@ ghost use Rattle.std.specs.Prelude.{◌≡◌, ◌≤◌, length, drop, if◌the
 ghost use Rattle.matcher_replay.specs.Agreement.{agrees_of, differing, first_agrees, line_bytes, lines};
 ghost use Rattle.hexadecimal.specs.Hexadecimal.{list_most};
 
+use std::io;
+use std::io::{Read, Stdout};
+
 // The bytes of a line.
 const LINE: usize = 14 * hexadecimal::SPACED;
 
-// The buffer holds 275 lines and a part of one more, so a list that is too long ends in a line that
-// is cut off, which counts as one that differs.
-fn main() {
-    let mut list = io::large_buffer();
-    let size = io::read_full(libc::STDIN_FILENO, &mut list);
-    let differ = replay(&list[..size]);
-    print((size + LINE - 1) / LINE, b" cases replayed, ");
-    print(differ, b" differ\n");
+// The bytes of a list, at most: 275 lines and a part of one more, so a list that is too long ends
+// in a line that is cut off, which counts as one that differs.
+const LIST: usize = 65536;
+
+// Fails where the list cannot be read, or what it came to cannot be written.
+fn main(rt: HostRuntime) -> io::Result<()> {
+    let out = rt.stdout();
+    let mut list = Vec::new(rt.alloc());
+    rt.stdin().take(LIST as u64).read_to_end(&mut list)?;
+    list.truncate(LIST);
+    let differ = replay(out, &list);
+    print(out, (list.len() + LINE - 1) / LINE, " cases replayed, ")?;
+    print(out, differ, " differ\n")
 }
 
-// Writes the number of each line that differs, and answers how many do.
-fn replay(list: &[u8]) -> usize
+// Writes the number of each line that differs, and answers how many do. One that cannot be written
+// counts all the same.
+fn replay(out: Stdout, list: &[u8]) -> usize
     requires { length list.now ≤ list_most }
     ensures { result ≡ differing (lines list.now) list.now }
 {
     let mut at = 0usize;
     let mut differ = 0usize;
     while at < list.len() {
-        differ += differs_at(list, at);
+        differ += differs_at(out, list, at);
         at += LINE;
     }
     differ
 }
 
 // 1 where the line that starts at `at` differs or is cut off, and 0 where it agrees.
-fn differs_at(list: &[u8], at: usize) -> usize
+fn differs_at(out: Stdout, list: &[u8], at: usize) -> usize
     requires { at ≤ length list.now }
     ensures { result ≡ (if first_agrees (drop at list.now) then 0 else 1) }
 {
     if agrees_at(list, at) {
         return 0;
     }
-    io::write_all(libc::STDOUT_FILENO, b"line ");
-    print(at / LINE + 1, b" differs\n");
+    let _ = out.print("line ");
+    let _ = print(out, at / LINE + 1, " differs\n");
     1
 }
 
@@ -77,7 +86,6 @@ fn agrees(line: &[u8]) -> bool
 }
 
 // Writes a number and the words after it.
-fn print(number: usize, words: &[u8]) {
-    io::print_decimal(libc::STDOUT_FILENO, number as u64);
-    io::write_all(libc::STDOUT_FILENO, words);
+fn print(out: Stdout, number: usize, words: &str) -> io::Result<()> {
+    print!(out; "{number}{words}")
 }

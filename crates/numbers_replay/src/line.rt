@@ -101,5 +101,5 @@ fn function_of(name: &[u8]) -> Named
 fn same_bytes(a: &[u8], b: &[u8]) -> bool
     ensures { result ≡ same_bytes a.now b.now }
 {
-    check::same(a, b)
+    a == b
 }

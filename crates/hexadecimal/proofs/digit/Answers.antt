@@ -1,28 +1,51 @@
 -- `hexadecimal::digit` meets its contract. Assumes nothing.
+use Rattle.std.proofs.Common.{◌≡◌, ℕ, ◌+◌, ◌-◌, ◌<◌, ◌≤◌}
 use native.Mathlib.Omega.{arith}
 use borrow.Author.Tests.{le-ltb, lt-ltb}
 use Rattle.hexadecimal.specs.Hexadecimal.{digit_of}
 use Rattle.hexadecimal.proofs.digit.Goals as goal
 
+module _ (b : ℕ) where
+  figure : 48 ≤ b → b < 58 → b - 48 ≡ digit_of b
+  unfolding digit_of
+  figure h k = simp (le-ltb _ _ h, lt-ltb _ _ k)
+
+  letter : 97 ≤ b → b < 103 → b - 97 + 10 ≡ digit_of b
+  unfolding digit_of
+  letter h k =
+      let g : 48 ≤ b = omega arith in
+      let j : 58 ≤ b = omega arith in
+      simp (le-ltb _ _ g, le-ltb _ _ j, le-ltb _ _ h, lt-ltb _ _ k) (omega arith)
+
+  below : b < 48 → 16 ≡ digit_of b
+  unfolding digit_of
+  below h = simp (lt-ltb _ _ h)
+
+  between : 58 ≤ b → b < 97 → 16 ≡ digit_of b
+  unfolding digit_of
+  between h k =
+      let g : 48 ≤ b = omega arith in
+      simp (le-ltb _ _ g, le-ltb _ _ h, lt-ltb _ _ k)
+
+  above : 103 ≤ b → 16 ≡ digit_of b
+  unfolding digit_of
+  above h =
+      let g : 48 ≤ b = omega arith in
+      let j : 58 ≤ b = omega arith in
+      let i : 97 ≤ b = omega arith in
+      simp (le-ltb _ _ g, le-ltb _ _ j, le-ltb _ _ i, le-ltb _ _ h)
+
 pub returns-in-48-to-57 : goal.returns-in-48-to-57
-unfolding digit_of
-returns-in-48-to-57 c = simp (le-ltb _ _ c.if-byte-lt48.false, lt-ltb _ _ c.if-byte-lt58.true)
+returns-in-48-to-57 c = figure c.args.byte (omega arith) (omega arith)
 
 pub returns-in-97-to-102 : goal.returns-in-97-to-102
-unfolding digit_of
-returns-in-97-to-102 c =
-    simp (le-ltb _ _ c.if-byte-lt48.false, le-ltb _ _ c.if-byte-lt58.false, le-ltb _ _ c.if-byte-lt97.false, lt-ltb _ _ c.if-byte-lt103.true) (omega arith)
+returns-in-97-to-102 c = letter c.args.byte (omega arith) (omega arith)
 
 pub returns-in_default : goal.returns-in_default
-unfolding digit_of
-returns-in_default c = simp (lt-ltb _ _ c.if-byte-lt48.true)
+returns-in_default c = below c.args.byte (omega arith)
 
 pub returns-in_default-2 : goal.returns-in_default-2
-unfolding digit_of
-returns-in_default-2 c =
-    simp (le-ltb _ _ c.if-byte-lt48.false, le-ltb _ _ c.if-byte-lt58.false, lt-ltb _ _ c.if-byte-lt97.true)
+returns-in_default-2 c = between c.args.byte (omega arith) (omega arith)
 
 pub returns-in_default-3 : goal.returns-in_default-3
-unfolding digit_of
-returns-in_default-3 c =
-    simp (le-ltb _ _ c.if-byte-lt48.false, le-ltb _ _ c.if-byte-lt58.false, le-ltb _ _ c.if-byte-lt97.false, le-ltb _ _ c.if-byte-lt103.false)
+returns-in_default-3 c = above c.args.byte (omega arith)

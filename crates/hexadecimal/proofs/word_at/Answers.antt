@@ -1,5 +1,5 @@
 -- `hexadecimal::word_at` meets its contract: the digits of word k stand at k * 17. Assumes nothing.
-use mathlib.Core.Path.{◌≡◌, sym, ap, ◌∙◌}
+use mathlib.Core.Path.{◌≡◌, ap, ◌∙◌}
 use mathlib.Core.List.{List}
 use Prim.Native.Nat.{ℕ, ◌+◌, ◌-◌, ◌*◌}
 use native.Mathlib.Omega.{arith}
@@ -17,8 +17,8 @@ read k line w e = ap word_of (e ∙ ap (λ (n : ℕ). word_from 0 (take n (drop 
 
 pub returns-in-Is : goal.returns-in-Is
 unfolding word_of
-returns-in-Is c = sym (ap word_of c.word-1.given.1) ∙ read c.args.k c.args.line.now _ c.parse.ensures
+returns-in-Is c = read c.args.k c.args.line.now _ c.in-Is.ensures
 
 pub returns-in-Malformed : goal.returns-in-Malformed
 unfolding word_of
-returns-in-Malformed c = sym (ap word_of c.enum_told-1.given.1) ∙ read c.args.k c.args.line.now _ c.parse.ensures
+returns-in-Malformed c = read c.args.k c.args.line.now _ c.in-Malformed.ensures
