@@ -168,7 +168,6 @@ fn fits_local(
 }
 
 // The reference that a call's numbers make, and whether a search of it fits.
-#[derive(Drop)]
 #[derive(Clone, Copy)]
 struct Made {
     reference: Reference,

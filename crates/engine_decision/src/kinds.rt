@@ -2,7 +2,6 @@
 use engine_spec::types::{Lock, Reached, Verdict};
 use matcher_spec::types::MatchResult;
 
-#[derive(Drop)]
 #[derive(Clone, Copy)]
 pub struct Decision {
     pub lock: Lock,

@@ -2,7 +2,6 @@
 use engine_spec::types::{Hypothesis, Lock, Maybe, Reached};
 use matcher_spec::types::MatchResult;
 
-#[derive(Drop)]
 #[derive(Clone, Copy)]
 pub struct Tracked {
     pub accepted: Hypothesis,
@@ -11,7 +10,6 @@ pub struct Tracked {
     pub found: MatchResult,
 }
 
-#[derive(Drop)]
 #[derive(Clone, Copy)]
 pub struct Searched {
     pub lock: Lock,

@@ -3,20 +3,16 @@
 use matcher_spec::limits::CANDIDATES_MOST;
 
 // ---- milliseconds, by what they are counted on: recorded sound, the reference, the clock
-#[derive(Drop)]
 #[derive(Clone, Copy)]
 pub struct RecordedMs(pub f64);
 
-#[derive(Drop)]
 #[derive(Clone, Copy)]
 pub struct ReferenceMs(pub f64);
 
-#[derive(Drop)]
 #[derive(Clone, Copy)]
 pub struct ClockMs(pub f64);
 
 // ---- what opening is given
-#[derive(Drop)]
 #[derive(Clone, Copy)]
 pub struct Configuration {
     pub minimum_readiness_duration_ms: f64,
@@ -27,7 +23,6 @@ pub struct Configuration {
 }
 
 // ---- what an answer shows
-#[derive(Drop)]
 #[derive(Clone, Copy)]
 pub enum State {
     Ready,
@@ -41,7 +36,6 @@ pub enum State {
     Failed,
 }
 
-#[derive(Drop)]
 #[derive(Clone, Copy)]
 pub enum LockPhase {
     None,
@@ -50,7 +44,6 @@ pub enum LockPhase {
     Final,
 }
 
-#[derive(Drop)]
 #[derive(Clone, Copy)]
 pub enum Stage {
     Readiness,
@@ -62,7 +55,6 @@ pub enum Stage {
 }
 
 // Why no supported estimate is shown; `None` where one is.
-#[derive(Drop)]
 #[derive(Clone, Copy)]
 pub enum WithholdReason {
     None,
@@ -78,7 +70,6 @@ pub enum WithholdReason {
     IndexUnavailable,
 }
 
-#[derive(Drop)]
 #[derive(Clone, Copy)]
 pub enum Estimate {
     Absent,
@@ -90,21 +81,18 @@ pub enum Estimate {
 }
 
 // A number that may be missing.
-#[derive(Drop)]
 #[derive(Clone, Copy)]
 pub enum Maybe {
     Absent,
     Is(f64),
 }
 
-#[derive(Drop)]
 #[derive(Clone, Copy)]
 pub enum Milestone {
     Absent,
     At(ClockMs),
 }
 
-#[derive(Drop)]
 #[derive(Clone, Copy)]
 pub struct SpectralDiagnostics {
     pub global_search: bool,
@@ -117,7 +105,6 @@ pub struct SpectralDiagnostics {
     pub coast_ms: f64,
 }
 
-#[derive(Drop)]
 #[derive(Clone, Copy)]
 pub struct CandidateDiagnostics {
     pub offset_ms: f64,
@@ -127,7 +114,6 @@ pub struct CandidateDiagnostics {
     pub combined_dense_score: f64,
 }
 
-#[derive(Drop)]
 #[derive(Clone, Copy)]
 pub struct Diagnostics {
     pub query_duration_ms: f64,
@@ -144,7 +130,6 @@ pub struct Diagnostics {
     pub spectral: SpectralDiagnostics,
 }
 
-#[derive(Drop)]
 #[derive(Clone, Copy)]
 pub struct Snapshot {
     pub state: State,
@@ -161,7 +146,6 @@ pub struct Snapshot {
 
 // ---- what a decision hands on
 // Which milestones are there: all that a decision knows of them.
-#[derive(Drop)]
 #[derive(Clone, Copy)]
 pub struct Reached {
     pub provisional: bool,
@@ -171,7 +155,6 @@ pub struct Reached {
 
 // What is said of the place: the state, why nothing supported is shown, the offset shown, how far the
 // local best lay from the track, and the coast.
-#[derive(Drop)]
 #[derive(Clone, Copy)]
 pub struct Verdict {
     pub state: State,
@@ -183,7 +166,6 @@ pub struct Verdict {
 
 // ---- the engine, nested by what changes together
 // Fixed at opening. Without index both counts and the start are 0.
-#[derive(Drop)]
 #[derive(Clone, Copy)]
 pub struct Settings {
     pub hop_ms: f64,
@@ -193,7 +175,6 @@ pub struct Settings {
 }
 
 // A place that sound speaks for.
-#[derive(Drop)]
 #[derive(Clone, Copy)]
 pub enum Hypothesis {
     Absent,
@@ -207,7 +188,6 @@ pub enum Hypothesis {
 
 // What the lock rules carry from one computed answer to the next. The search time is minus
 // infinity before the first whole search.
-#[derive(Drop)]
 #[derive(Clone, Copy)]
 pub struct Lock {
     pub pending: Hypothesis,
@@ -216,7 +196,6 @@ pub struct Lock {
 }
 
 // When the first passing search was answered, and the first end of a chain.
-#[derive(Drop)]
 #[derive(Clone, Copy)]
 pub struct Milestones {
     pub first_provisional_ms: Milestone,
@@ -224,7 +203,6 @@ pub struct Milestones {
     pub final_ms: Milestone,
 }
 
-#[derive(Drop)]
 #[derive(Clone, Copy)]
 pub enum Endpoint {
     Absent,
@@ -232,7 +210,6 @@ pub enum Endpoint {
 }
 
 // The last computed window's endpoint and snapshot. Without `has_snapshot` the snapshot is none.
-#[derive(Drop)]
 #[derive(Clone, Copy)]
 pub struct Last {
     pub endpoint_ms: Endpoint,
@@ -240,7 +217,6 @@ pub struct Last {
     pub snapshot: Snapshot,
 }
 
-#[derive(Drop)]
 #[derive(Clone, Copy)]
 pub struct Engine {
     pub configuration: Configuration,
@@ -253,7 +229,6 @@ pub struct Engine {
 // ---- what the calls give back
 // One case for each refusal, and one for none; numbers stand in specs/Refusals.antt. The last three
 // are of named places.
-#[derive(Drop)]
 #[derive(Clone, Copy)]
 pub enum Refusal {
     None,
@@ -275,7 +250,6 @@ pub enum Refusal {
     NothingKept,
 }
 
-#[derive(Drop)]
 #[derive(Clone, Copy)]
 pub enum Answer {
     Opened,
@@ -285,7 +259,6 @@ pub enum Answer {
 }
 
 // Where opening is refused, `engine` is one that every submission refuses.
-#[derive(Drop)]
 #[derive(Clone, Copy)]
 pub struct OpenResult {
     pub answer: Answer,
@@ -293,7 +266,6 @@ pub struct OpenResult {
 }
 
 // Where a submission is refused, `engine` is the one handed in and `snapshot` is blank.
-#[derive(Drop)]
 #[derive(Clone, Copy)]
 pub struct SubmitResult {
     pub answer: Answer,
@@ -302,7 +274,6 @@ pub struct SubmitResult {
 }
 
 // The coast of the last computed answer, where it was Locked. Refused, or not Locked: absent.
-#[derive(Drop)]
 #[derive(Clone, Copy)]
 pub struct Age {
     pub refusal: Refusal,

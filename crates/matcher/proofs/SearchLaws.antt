@@ -114,7 +114,7 @@ module _ (x : Reference) (fine query : Bands) (start : Float) (peaks : List ℕ)
 
 -- what owning picked places tells: their array has 8 elements
 pub eight : (r : Picked) (vs : List Val) → Is (row_of the_type) r vs → length r.at ≡ candidates_most
-eight r vs p = simp length-map at p.1.1.0.1.0.1
+eight r vs p = p.1.1.0.1.0.1
 
 -- ---- the range of a local search
 at_most_cap : (cap x : Float) → T (finite cap) → T (le (at_most cap x) cap)

@@ -8,7 +8,6 @@ ghost use Rattle.matcher_spec.specs.Limits.{candidates_most};
 use matcher_spec::limits::CANDIDATES_MOST;
 
 // A place and the score there.
-#[derive(Drop)]
 #[derive(Clone, Copy)]
 pub struct Maximum {
     pub at: usize,
@@ -37,7 +36,6 @@ pub fn first_maximum(scores: &[f64]) -> Maximum
 }
 
 // Places in the order in which they were picked.
-#[derive(Drop)]
 #[derive(Clone, Copy)]
 pub struct Picked {
     pub at: [usize; CANDIDATES_MOST],

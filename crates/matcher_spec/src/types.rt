@@ -2,7 +2,6 @@
 use crate::limits::CANDIDATES_MOST;
 
 // What a search knows of its reference besides the buffers.
-#[derive(Drop)]
 #[derive(Clone, Copy)]
 pub struct Reference {
     pub bands: usize,
@@ -12,7 +11,6 @@ pub struct Reference {
 }
 
 // A candidate maps capture time to reference time by adding `offset_ms`.
-#[derive(Drop)]
 #[derive(Clone, Copy)]
 pub struct Candidate {
     pub offset_ms: f64,
@@ -23,7 +21,6 @@ pub struct Candidate {
 }
 
 // The first `count` candidates, the best first.
-#[derive(Drop)]
 #[derive(Clone, Copy)]
 pub struct MatchResult {
     pub candidates: [Candidate; CANDIDATES_MOST],

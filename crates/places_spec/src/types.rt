@@ -2,7 +2,6 @@
 use engine_spec::types::{Engine, Refusal};
 
 // Where it is refused, `engine` is the running one that was handed in.
-#[derive(Drop)]
 #[derive(Clone, Copy)]
 pub struct Restored {
     pub refusal: Refusal,

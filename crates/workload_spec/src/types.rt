@@ -1,5 +1,4 @@
 // What filling a load answers.
-#[derive(Drop)]
 #[derive(Clone, Copy)]
 pub enum Filling {
     Filled,

@@ -8,19 +8,6 @@ use Rattle.numbers_spec.proofs.RowLaws.{filling_none}
 use Rattle.matcher_bands.proofs.CentringLaws.{centred_block}
 use Rattle.matcher_bands.proofs.centring.centre.Goals as goal
 
-pub loop-at-init : goal.loop-at-init
-loop-at-init c = (omega arith, refl, refl, filling_none _ _)
-
-pub slice_bounds-centre_block-end-in-loop-at : goal.slice_bounds-centre_block-end-in-loop-at
-slice_bounds-centre_block-end-in-loop-at c = sym (length-take-le _ _ (omega arith))
-
-pub slice_bounds-centre_block-end-in-loop-at-2 : goal.slice_bounds-centre_block-end-in-loop-at-2
-slice_bounds-centre_block-end-in-loop-at-2 c = sym (length-take-le _ _ (omega arith))
-
-pub centre_block-requires : goal.centre_block-requires
-centre_block-requires c =
-    let t = simp (length-take, length-drop) (omega arith) in record { fact_1 = t.0; fact_2 = t.1.0; fact_3 = t.1.1.0; fact_4 = t.1.1.1 }
-
 pub loop-at-preserved : goal.loop-at-preserved
 loop-at-preserved c =
     let block = c.centre_block in
@@ -34,10 +21,16 @@ loop-at-preserved c =
       centred_block a.radius a.from a.row.now a.sums.now l.at n c.requires.sums_value (omega arith) (length-take-le n l.wide (omega arith)) l.invariant.3 block.ensures,
     )
 
-pub shape_of-row : goal.shape_of-row
-shape_of-row c = c.loop-at.invariant.3.size
-
 pub returns : goal.returns
 returns c =
     let e : c.loop-at.at ≡ c.args.count = omega arith in
     rw e at c.loop-at.invariant.3.front
+
+pub loop-at-init : goal.loop-at-init
+loop-at-init c = (omega arith, refl, refl, filling_none _ _)
+
+pub slice_bounds-centre_block-end-in-loop-at : goal.slice_bounds-centre_block-end-in-loop-at
+slice_bounds-centre_block-end-in-loop-at c = sym (length-take-le _ _ (omega arith))
+
+pub slice_bounds-centre_block-end-in-loop-at-2 : goal.slice_bounds-centre_block-end-in-loop-at-2
+slice_bounds-centre_block-end-in-loop-at-2 c = sym (length-take-le _ _ (omega arith))

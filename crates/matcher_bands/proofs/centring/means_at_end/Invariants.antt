@@ -6,7 +6,7 @@ use Rattle.matcher_bands.specs.Centring.{wide_mean}
 use Rattle.matcher_bands.proofs.centring.means_at_end.Given as goal
 
 abbrev pub invariant-loop-k : goal.invariant-loop-k
-invariant-loop-k l = Filling (λ (l.k : ℕ). wide_mean l.sums l.first l.last l.radius (l.i + l.k)) l.initial.wide l.k l.wide
+invariant-loop-k l = Filling (λ (k' : ℕ). wide_mean l.sums l.first l.last l.radius (l.i + k')) l.initial.wide l.k l.wide
 
 abbrev pub decreases-loop-k : goal.decreases-loop-k
 decreases-loop-k l = length l.initial.wide - l.k

@@ -8,9 +8,6 @@ use Rattle.numbers_spec.proofs.RowLaws.{filling_none, filling_more}
 use Rattle.matcher_bands.proofs.CentringLaws.{filled_ahead}
 use Rattle.matcher_bands.proofs.centring.take_off.Goals as goal
 
-pub loop-k-init : goal.loop-k-init
-loop-k-init c = (omega arith, filling_none _ _)
-
 pub loop-k-preserved : goal.loop-k-preserved
 loop-k-preserved c =
     let a = c.args in
@@ -19,10 +16,10 @@ loop-k-preserved c =
     let ahead : get_or c.loop-k.row (a.from + k) nan ≡ get_or a.row.now (a.from + k) nan = rw (add_comm a.from k) (filled_ahead _ a.row.now k a.from nan held.front) in
     (omega arith, filling_more held (ap (λ (x : Float). sub binary32 x (get_or a.means.now k nan)) ahead) (omega arith))
 
-pub shape_of-row : goal.shape_of-row
-shape_of-row c = c.loop-k.invariant.1.size
-
 pub returns : goal.returns
 returns c =
     let e : c.loop-k.k ≡ length c.args.means.now = omega arith in
     rw e at c.loop-k.invariant.1.front
+
+pub loop-k-init : goal.loop-k-init
+loop-k-init c = (omega arith, filling_none _ _)

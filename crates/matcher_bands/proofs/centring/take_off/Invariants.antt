@@ -6,7 +6,7 @@ use Rattle.numbers_spec.proofs.RowLaws.{Filling}
 use Rattle.matcher_bands.proofs.centring.take_off.Given as goal
 
 abbrev pub invariant-loop-k : goal.invariant-loop-k
-invariant-loop-k l = (l.k ≤ length l.means) × Filling (λ (l.k : ℕ). sub binary32 (get_or l.initial.row (l.from + l.k) nan) (get_or l.means l.k nan)) l.initial.row l.k l.row
+invariant-loop-k l = (l.k ≤ length l.means) × Filling (λ (k' : ℕ). sub binary32 (get_or l.initial.row (l.from + k') nan) (get_or l.means k' nan)) l.initial.row l.k l.row
 
 abbrev pub decreases-loop-k : goal.decreases-loop-k
 decreases-loop-k l = length l.means - l.k

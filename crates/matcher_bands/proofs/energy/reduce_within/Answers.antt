@@ -36,41 +36,48 @@ reduced_more d n to b {work} h k p q =
           ∙ ap (λ (l : List Float). take to d ++ l ++ drop (to + (b + 1) * (n / 4)) d) (sym one),
     )
 
--- in a turn the band ends before the place, and its averages within the slice
-within : (c : tie.In-loop invariant-loop decreases-loop) →
-    let a = c.before.before.before.args in
-    let b = c.before.loop.b in
-    (b * a.n + a.n ≤ a.to) × (a.to + b * (a.n / 4) + a.n / 4 ≤ length a.work.now)
-within c =
-    let n = c.before.before.before.args.n in
-    omega (arith, row_within _ _ n c.loop-test.true, row_within _ _ (n / 4) c.loop-test.true)
-
 pub loop-b-init : goal.loop-b-init
 loop-b-init c = (omega arith, refl, reduced_none c.args.work.now c.args.n c.args.to)
 
-pub overflow_mul-b : goal.overflow_mul-b
-overflow_mul-b c = omega (arith, within c.before)
-
-pub overflow_mul-b-in-loop-b : goal.overflow_mul-b-in-loop-b
-overflow_mul-b-in-loop-b c = omega (arith, within c.before)
-
-pub overflow_add-to : goal.overflow_add-to
-overflow_add-to c = omega (arith, within c.before)
-
-pub average_within-requires : goal.average_within-requires
-average_within-requires c = let t = omega (arith, within c.before) in record { fact_1 = t.0; fact_2 = t.1 }
-
 pub loop-b-preserved : goal.loop-b-preserved
 loop-b-preserved c =
+    let within : let a = c.args in let b = c.loop-b.b in (b * a.n + a.n ≤ a.to) × (a.to + b * (a.n / 4) + a.n / 4 ≤ length a.work.now) =
+    let n = c.args.n in
+    omega (arith, row_within _ _ n c.loop-b-test.true, row_within _ _ (n / 4) c.loop-b-test.true) in
     let call = c.average_within in
     let a = c.args in
-    let w = within c.before.before.before.before in
+    let w = within in
     (omega arith, call.auto.work ∙ c.loop-b.invariant.1, reduced_more a.work.now a.n a.to c.loop-b.b w.0 w.1 c.loop-b.invariant.2 call.ensures)
-
-pub shape_of-work : goal.shape_of-work
-shape_of-work c = c.loop-b.invariant.1
 
 pub returns : goal.returns
 returns c =
     let e : c.loop-b.b ≡ c.args.bands = omega arith in
     rw e at c.loop-b.invariant.2.1
+
+pub overflow_mul-b : goal.overflow_mul-b
+overflow_mul-b c =
+    let within : let a = c.args in let b = c.loop-b.b in (b * a.n + a.n ≤ a.to) × (a.to + b * (a.n / 4) + a.n / 4 ≤ length a.work.now) =
+    let n = c.args.n in
+    omega (arith, row_within _ _ n c.loop-b-test.true, row_within _ _ (n / 4) c.loop-b-test.true) in
+    omega (arith, within)
+
+pub overflow_mul-b-in-loop-b : goal.overflow_mul-b-in-loop-b
+overflow_mul-b-in-loop-b c =
+    let within : let a = c.args in let b = c.loop-b.b in (b * a.n + a.n ≤ a.to) × (a.to + b * (a.n / 4) + a.n / 4 ≤ length a.work.now) =
+    let n = c.args.n in
+    omega (arith, row_within _ _ n c.loop-b-test.true, row_within _ _ (n / 4) c.loop-b-test.true) in
+    omega (arith, within)
+
+pub overflow_add-to : goal.overflow_add-to
+overflow_add-to c =
+    let within : let a = c.args in let b = c.loop-b.b in (b * a.n + a.n ≤ a.to) × (a.to + b * (a.n / 4) + a.n / 4 ≤ length a.work.now) =
+    let n = c.args.n in
+    omega (arith, row_within _ _ n c.loop-b-test.true, row_within _ _ (n / 4) c.loop-b-test.true) in
+    omega (arith, within)
+
+pub average_within-requires : goal.average_within-requires
+average_within-requires c =
+    let within : let a = c.args in let b = c.loop-b.b in (b * a.n + a.n ≤ a.to) × (a.to + b * (a.n / 4) + a.n / 4 ≤ length a.work.now) =
+    let n = c.args.n in
+    omega (arith, row_within _ _ n c.loop-b-test.true, row_within _ _ (n / 4) c.loop-b-test.true) in
+    record { fact_1 = omega (arith, within); fact_2 = omega (arith, within) }

@@ -14,12 +14,6 @@ use Rattle.matcher_spec.specs.Limits.{bands_most}
 use Rattle.matcher_bands.proofs.energy.whole_energies.Goals as goal
 use Rattle.matcher_bands.proofs.energy.whole_energies.Invariants.{last, none}
 
--- in a turn the band's row ends within the slice
-within : (c : tie.In-loop invariant-loop decreases-loop) →
-    let a = c.before.before.args in
-    c.before.loop.b * (a.n + 1) + (a.n + 1) ≤ length a.energy.now
-within c = omega (arith, row_within _ _ (c.before.before.args.n + 1) c.loop-test.true)
-
 -- what is left of a list of zeros
 left : (bands : ℕ) → bands ≤ bands_most → drop bands (tabulate none bands_most) ≡ tabulate none (bands_most - bands)
 left bands h =
@@ -31,19 +25,34 @@ unfolding tabulate of_bits
 loop-b-init c = (omega arith, refl, refl)
 
 pub overflow_add-last : goal.overflow_add-last
-overflow_add-last c = omega (arith, within c)
+overflow_add-last c =
+    let within : let a = c.args in c.loop-b.b * (a.n + 1) + (a.n + 1) ≤ length a.energy.now =
+    omega (arith, row_within _ _ (c.args.n + 1) c.loop-b-test.true) in
+    omega (arith, within)
 
 pub overflow_mul-last : goal.overflow_mul-last
-overflow_mul-last c = omega (arith, within c)
+overflow_mul-last c =
+    let within : let a = c.args in c.loop-b.b * (a.n + 1) + (a.n + 1) ≤ length a.energy.now =
+    omega (arith, row_within _ _ (c.args.n + 1) c.loop-b-test.true) in
+    omega (arith, within)
 
 pub overflow_add-last-in-loop-b : goal.overflow_add-last-in-loop-b
-overflow_add-last-in-loop-b c = omega (arith, within c)
+overflow_add-last-in-loop-b c =
+    let within : let a = c.args in c.loop-b.b * (a.n + 1) + (a.n + 1) ≤ length a.energy.now =
+    omega (arith, row_within _ _ (c.args.n + 1) c.loop-b-test.true) in
+    omega (arith, within)
 
 pub offset_bounds-energy-last : goal.offset_bounds-energy-last
-offset_bounds-energy-last c = omega (arith, within c)
+offset_bounds-energy-last c =
+    let within : let a = c.args in c.loop-b.b * (a.n + 1) + (a.n + 1) ≤ length a.energy.now =
+    omega (arith, row_within _ _ (c.args.n + 1) c.loop-b-test.true) in
+    omega (arith, within)
 
 pub bounds-energy-last : goal.bounds-energy-last
-bounds-energy-last c = omega (arith, within c.before)
+bounds-energy-last c =
+    let within : let a = c.args in c.loop-b.b * (a.n + 1) + (a.n + 1) ≤ length a.energy.now =
+    omega (arith, row_within _ _ (c.args.n + 1) c.loop-b-test.true) in
+    omega (arith, within)
 
 pub loop-b-preserved : goal.loop-b-preserved
 loop-b-preserved c =

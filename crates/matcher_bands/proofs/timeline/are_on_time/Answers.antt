@@ -1,5 +1,4 @@
 use mathlib.Core.Path.{◌≡◌, refl, sym, ap, ◌∙◌}
-use mathlib.Core.Bool.{true}
 use Prim.Native.Nat.{suc, ◌+◌, ◌-◌}
 use native.Mathlib.Omega.{arith}
 use lib.ListN.{length}
@@ -20,14 +19,14 @@ returns-then-not-is_on_time c =
     let i = c.loop-i.i in
     let e : suc (i - 1) ≡ i = omega arith in
     sym (all_fails (step_at a.hop a.times.now) (length a.times.now - 1) (i - 1) (omega arith)
-    (ap (on_time a.hop a.times.now) e ∙ sym c.is_on_time.ensures ∙ not-true _ c.if-not-is_on_time.true))
+    (ap (on_time a.hop a.times.now) e ∙ sym c.is_on_time.ensures ∙ not-true _ c.if-not-is_on_time.true-raw))
 
 pub loop-i-preserved : goal.loop-i-preserved
 loop-i-preserved c =
     let a = c.args in
     let i = c.loop-i.i in
     let e : suc (i - 1) ≡ i = omega arith in
-    let on = ap (on_time a.hop a.times.now) e ∙ sym c.is_on_time.ensures ∙ not-false _ c.if-not-is_on_time.false in
+    let on = ap (on_time a.hop a.times.now) e ∙ sym c.is_on_time.ensures ∙ not-false _ c.if-not-is_on_time.false-raw in
     let next : i + 1 - 1 ≡ i - 1 + 1 = omega arith in
     (omega arith, omega arith, rw next (all_more (step_at a.hop a.times.now) (i - 1) c.loop-i.invariant.2 on))
 

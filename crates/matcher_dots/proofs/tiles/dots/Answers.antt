@@ -11,9 +11,6 @@ use Rattle.matcher_dots.proofs.tiles.dots.Goals as goal
 pub loop-out-init : goal.loop-out-init
 loop-out-init c = filling_none _ _
 
-pub fill_tile-requires : goal.fill_tile-requires
-fill_tile-requires c =
-    let t = simp (length-take, length-drop) (omega arith) in record { fact_1 = t.0; fact_2 = t.1 }
 
 pub loop-out-preserved : goal.loop-out-preserved
 loop-out-preserved c =

@@ -14,9 +14,6 @@ pub loop-j-init : goal.loop-j-init
 unfolding first_lanes tabulate
 loop-j-init c = (omega arith, refl, refl)
 
-pub add_lanes-requires : goal.add_lanes-requires
-add_lanes-requires c =
-    let t = (row_length _ tile c.loop-j.invariant.2, omega arith) in record { sums_len_1 = t.0; sums_len_2 = t.1.0; j_bound_1 = t.1.1.0; j_bound_2 = t.1.1.1 }
 
 pub loop-j-preserved : goal.loop-j-preserved
 loop-j-preserved c =
@@ -38,14 +35,8 @@ loop-i-preserved c =
     let inv = c.loop-i.invariant in
     (omega arith, omega arith, dot_more a.row.now a.query.now c.loop-i.i inv.2 c.add_scaled.ensures refl inv.0 (omega arith))
 
-pub loop-p-init : goal.loop-p-init
-loop-p-init c = filling_none _ _
-
 pub loop-p-preserved : goal.loop-p-preserved
 loop-p-preserved c = filling_more c.loop-p.invariant refl (omega arith)
-
-pub shape_of-out : goal.shape_of-out
-shape_of-out c = c.loop-p.invariant.size
 
 pub returns : goal.returns
 returns c =
@@ -53,3 +44,9 @@ returns c =
     let all : c.loop-i.i ≡ length a.query.now = omega arith in
     row_then _ _ (λ (p : ℕ) (x : Float). x) nan tile (rw all at c.loop-i.invariant.2) (filling_of_lem c.loop-p.invariant (omega arith) (omega arith))
     (dot_ends a.row.now a.query.now (omega arith))
+
+pub loop-p-init : goal.loop-p-init
+loop-p-init c = filling_none _ _
+
+pub add_lanes-requires-clause-sums_len_1 : goal.add_lanes-requires-clause-sums_len_1
+add_lanes-requires-clause-sums_len_1 c = row_length _ tile c.loop-j.invariant.2

@@ -22,7 +22,7 @@ abbrev pub decreases-loop-i : goal.decreases-loop-i
 decreases-loop-i l = length l.query - l.i
 
 abbrev pub invariant-loop-p : goal.invariant-loop-p
-invariant-loop-p l = Filling (λ (l.p : ℕ). get_or l.sums l.p nan) l.initial.out l.p l.out
+invariant-loop-p l = Filling (λ (p' : ℕ). get_or l.sums p' nan) l.initial.out l.p l.out
 
 abbrev pub decreases-loop-p : goal.decreases-loop-p
 decreases-loop-p l = tile - l.p

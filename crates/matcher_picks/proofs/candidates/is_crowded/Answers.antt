@@ -26,6 +26,6 @@ pub returns : goal.returns
 unfolding crowded
 returns c =
     let a = c.args in
-    let e : length a.result.candidates ≡ 8 = eight a.result _ c.well_formed.0 in
-    let i : c.loop-i.i ≡ a.result.count = omega arith in
-    rw (i, no_more a.result.candidates a.result.count (omega arith)) at c.loop-i.invariant.1
+    let e : length a.res.candidates ≡ 8 = eight a.res _ c.well_formed.0 in
+    let i : c.loop-i.i ≡ a.res.count = omega arith in
+    rw (i, no_more a.res.candidates a.res.count (omega arith)) at c.loop-i.invariant.1

@@ -12,7 +12,7 @@ loop-i-init c = (omega arith, omega arith, refl)
 
 pub loop-i-preserved : goal.loop-i-preserved
 unfolding free_to
-loop-i-preserved c = (omega arith, omega arith, rw (add-one, ← c.loop-i.invariant.2) c.Free-step.ensures.0)
+loop-i-preserved c = (omega arith, omega arith, rw (add-one, ← c.loop-i.invariant.2) c.free_step-best.ensures.value)
 
 pub returns : goal.returns
 returns c =

@@ -9,6 +9,7 @@ use lib.ListN.{length, get_or}
 use lib.Ieee.{Float, nan, lt}
 use Rattle.matcher_spec.specs.Peaks.{maximum_to}
 use Rattle.matcher_picks.proofs.peaks.first_maximum.Goals as goal
+use Rattle.matcher_picks.proofs.peaks.first_maximum.Goals.{then-scores-i, else-scores-i}
 
 step : (s : List Float) (i b : ℕ) (t : Bool) → b ≡ maximum_to s i → lt (get_or s b nan) (get_or s i nan) ≡ t → cond t i b ≡ maximum_to s (i + 1)
 unfolding maximum_to
@@ -23,10 +24,10 @@ loop-i-preserved c =
     let s = c.args.scores.now in
     let i = c.loop-i.i in
     let b = c.loop-i.best in
-    ⊎_elim
-    (λ w. (omega arith, omega arith, w.1 ∙ step s i b true c.loop-i.invariant.2 w.0.taken))
-    (λ w. (omega arith, omega arith, w.1 ∙ step s i b false c.loop-i.invariant.2 w.0.left))
-    c.if-scores-i.branch
+    elim c.if-scores-i.branch [
+      | then-scores-i w ↦ (omega arith, omega arith, w.best-is ∙ step s i b true c.loop-i.invariant.2 w.if-scores-i.true)
+      | else-scores-i w ↦ (omega arith, omega arith, w.best-is ∙ step s i b false c.loop-i.invariant.2 w.if-scores-i.false)
+    ]
 
 pub returns : goal.returns
 returns c =

@@ -10,6 +10,7 @@ use lib.Dec.{ltb}
 use borrow.Author.Tests.{lt-ltb, le-ltb}
 use Rattle.matcher_spec.specs.Peaks.{near_to, apart}
 use Rattle.matcher_picks.proofs.peaks.is_near.Goals as goal
+use Rattle.matcher_picks.proofs.peaks.is_near.Goals.{then-distance-separation, else-distance-separation}
 
 or_true : (f : Bool) → f || true ≡ true
 or_true true = refl
@@ -33,10 +34,10 @@ loop-k-preserved c =
     let k = c.loop-k.k in
     let f = c.loop-k.found in
     let d = c.distance.ensures in
-    ⊎_elim
-    (λ w. (omega arith, w.1 ∙ sym (or_true f) ∙ step a.taken.now a.separation a.i k f true c.loop-k.invariant.1 d (lt-ltb _ _ w.0.taken)))
-    (λ w. (omega arith, w.1 ∙ sym (or_false f) ∙ step a.taken.now a.separation a.i k f false c.loop-k.invariant.1 d (le-ltb _ _ w.0.left)))
-    c.if-distance-separation.branch
+    elim c.if-distance-separation.branch [
+      | then-distance-separation w ↦ (omega arith, w.found-is ∙ sym (or_true f) ∙ step a.taken.now a.separation a.i k f true c.loop-k.invariant.1 d (lt-ltb _ _ w.if-distance-separation.true))
+      | else-distance-separation w ↦ (omega arith, w.found-is ∙ sym (or_false f) ∙ step a.taken.now a.separation a.i k f false c.loop-k.invariant.1 d (le-ltb _ _ w.if-distance-separation.false))
+    ]
 
 pub returns : goal.returns
 returns c =
