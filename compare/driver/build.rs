@@ -1,4 +1,4 @@
-//! Links the static libraries that `rt staticlib` writes.
+//! Links the static libraries that `tools/staticlib` writes.
 
 use std::env;
 use std::path::Path;
@@ -14,7 +14,7 @@ fn main() {
         println!("cargo::rerun-if-changed={}", library.display());
         if !library.is_file() {
             println!(
-                "cargo::error=no library at {}: run `rt staticlib {name}` in the repository's root",
+                "cargo::error=no library at {}: run `tools/staticlib {name}` in the repository's root",
                 library.display()
             );
         }

@@ -1,5 +1,5 @@
 //! Links libkistovab.a: from the folder that `KISTOVAB_LIB_DIR` names, else from the repository's
-//! target/staticlib, where `rt staticlib kistovab` writes it if it is missing.
+//! target/staticlib, where `tools/staticlib kistovab` writes it if it is missing.
 
 use std::env;
 use std::path::{self, Path, PathBuf};
@@ -58,11 +58,11 @@ fn make(root: &Path) -> Result<(), &'static str> {
     if !root.join("crates.txt").is_file() {
         return Err("this crate is not in its repository, where it could be made: put it there");
     }
-    let mut rt = Command::new("rt");
-    rt.args(["staticlib", "kistovab"]).current_dir(root);
-    match rt.output() {
+    let mut script = Command::new("tools/staticlib");
+    script.arg("kistovab").current_dir(root);
+    match script.output() {
         Ok(output) if output.status.success() => Ok(()),
-        Ok(_) => Err("`rt staticlib kistovab` did not make it: run that in the repository's root and see why"),
-        Err(_) => Err("`rt`, which makes it, was not found: put the Rattle kit's on PATH"),
+        Ok(_) => Err("`tools/staticlib kistovab` did not make it: run that in the repository's root and see why; it needs the Rattle kit's `rt` on PATH"),
+        Err(_) => Err("tools/staticlib, which makes it, was not found in the repository"),
     }
 }

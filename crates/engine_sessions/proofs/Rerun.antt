@@ -15,7 +15,7 @@ use Rattle.engine_spec.specs.declared.types.SubmitResult.{SubmitResult}
 use Rattle.engine_spec.specs.declared.types.Milestone.TheVariants as milestone
 use Rattle.engine_spec.specs.declared.types.State.TheVariants as state
 use Rattle.engine_spec.proofs.Sessions.{guarantee_of_sessions}
-use Rattle.engine_sessions.specs.Session.{Turn, Session, engine_of, outcome, after, AllWork, end, turn, submissions, all_replied}
+use Rattle.engine_sessions.specs.Session.{Turn, Session, engine_of, after, AllWork, end, turn, submissions, all_replied}
 use Rattle.engine_sessions.specs.Session.{replied as repliedTo}
 use Rattle.engine_sessions.specs.ByAChain.{turn7, turn8, session}
 use Rattle.engine_sessions.specs.NotEmpty.{answer_at}

@@ -1,5 +1,5 @@
 -- A mark and a rerun (engine_spec, Sessions): the recorded session as far as its coast, with a mark before its lock; then the mark is restored, and the same windows lock again. Definitions only.
-use Rattle.std.specs.Prelude.{ℕ, List, [], ◌∷◌, ◌++◌, ◌≡◌, T}
+use Rattle.std.specs.Prelude.{List, [], ◌∷◌, ◌++◌, ◌≡◌, T}
 use Rattle.engine_spec.specs.Cases.{is_there}
 use Rattle.engine_spec.specs.Lists.{Answered}
 use Rattle.engine_spec.specs.Sessions.{Start, Past, state_of, submits, returns, answers_of, AllProper, PromisedOf}

@@ -12,7 +12,7 @@ use Rattle.numbers_spec.specs.Arithmetic.{◌⊗◌, zero⁺, at_least}
 use Rattle.numbers_spec.proofs.Sums.{sub_self, sub_not_negative}
 use Rattle.matcher_spec.specs.Centring.{context_frames}
 use Rattle.engine_spec.specs.Thresholds.{coast_most_ms, reread_ms}
-use Rattle.engine_spec.specs.Windows.{endpoint_of, evidence, evidence_at, ◌after◌}
+use Rattle.engine_spec.specs.Windows.{endpoint_of, evidence_at, ◌after◌}
 use Rattle.engine_spec.specs.Locking.{Searched}
 use Rattle.engine_spec.specs.Chain.{window_at, shown_at, spectral_at, when, jump_at, interrupts, EndsChain, OnChain, Coasts}
 use Rattle.engine_spec.specs.Cases.{is_none, interrupting, estimated}

@@ -10,12 +10,11 @@ use lib.Seq.{get_or_at}
 use Rattle.matcher_spec.specs.Index.{Matcher}
 use Rattle.engine_spec.specs.Cases.{is_computed}
 use Rattle.engine_spec.specs.Windows.{Submission}
-use Rattle.engine_spec.specs.Refusals.{handed_refusal, submission_refusal}
 use Rattle.engine_spec.specs.Submitting.{reread, computed_from, submit}
 use Rattle.engine_spec.specs.Lists.{Answered, answers_to, engine_after, remaining, unanswered}
 use Rattle.engine_spec.specs.Guarantee.{Handed, AllHanded, nothing, next, submissions_of, at_clock, Reclocked, bares}
 use Rattle.engine_spec.specs.Guaranteed.{last_of}
-use Rattle.engine_spec.specs.Sessions.{Start, Past, fresh_of, settings_of, matcher_of, state_of, answers_in, further, Proper, Turn, submits, returns, answers_of, state_after, pasts, past_after, AllProper, nothing, submission, return, lasts, remaining_of, SameSound, Retold, PromisedPast, PromisedOf, GuaranteeOfSessions, StruckPast}
+use Rattle.engine_spec.specs.Sessions.{Start, Past, fresh_of, settings_of, matcher_of, state_of, answers_in, further, Proper, Turn, submits, answers_of, state_after, pasts, past_after, AllProper, nothing, submission, return, lasts, remaining_of, SameSound, Retold, PromisedPast, GuaranteeOfSessions, StruckPast}
 use Rattle.engine_spec.specs.declared.types.Settings.{Settings}
 use Rattle.engine_spec.specs.declared.types.Engine.{Engine}
 use Rattle.engine_spec.proofs.Openings.{Opening, engine_is, configuration_valid}

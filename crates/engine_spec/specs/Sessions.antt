@@ -9,7 +9,7 @@ use Rattle.engine_spec.specs.Windows.{Submission}
 use Rattle.engine_spec.specs.Refusals.{handed_refusal, submission_refusal}
 use Rattle.engine_spec.specs.Opening.{opening, opened_settings, matcher_of_reference}
 use Rattle.engine_spec.specs.Submitting.{submit}
-use Rattle.engine_spec.specs.Lists.{Answered, answers_to, engine_after, remaining, unanswered}
+use Rattle.engine_spec.specs.Lists.{Answered, answers_to, engine_after, remaining}
 use Rattle.engine_spec.specs.Guarantee.{Handed, AllHanded, submissions_of, at_clock, Reclocked, bares, Promised}
 use Rattle.engine_spec.specs.Guaranteed.{last_of}
 use Rattle.engine_spec.specs.Leap.{Gently}

@@ -6,7 +6,7 @@ use Prim.Native.Nat.{ℕ, suc, ◌+◌, ◌-◌, ◌<◌, ◌≤◌}
 use native.Mathlib.Numerals.{add-one}
 use native.Mathlib.Nat.{not-suc-le-zero}
 use native.Mathlib.Omega.{arith}
-use lib.ListN.{length, get_or, set, take, drop, replicate, length-append, length-map}
+use lib.ListN.{length, get_or, set, take, drop, replicate, length-append}
 use lib.Seq.{drop-cons, get_or-take, drop-length, length-take-le, set_at, append_snoc, take-suc, take-suc-set, take-set-lt, drop-set-lt, take_at}
 use lib.Ieee.{Float, lt}
 use mir.Val.{Val}

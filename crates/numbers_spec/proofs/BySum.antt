@@ -8,7 +8,7 @@ use lib.Dec.{T, leb, ltb, leb→le, nleb→lt, ltb→lt, nltb→le}
 use lib.Pow.{pow_pos}
 use lib.Ieee.{nearest}
 use lib.Ieee.Nearest.{closest}
-use Rattle.numbers_spec.specs.Narrow.{by_sum, NearestWhole, SumNearest, SumClosest}
+use Rattle.numbers_spec.specs.Narrow.{by_sum, SumNearest, SumClosest}
 use Rattle.numbers_spec.proofs.Encode.{nearest_lt, nearest_gt, nearest_eq}
 
 twice : (k : ℕ) → 1 ≤ k → 2 ^ k ≡ 2 * 2 ^ (k - 1)

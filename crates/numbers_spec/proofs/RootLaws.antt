@@ -11,7 +11,7 @@ use lib.Count.{count_trailing_zeros}
 use lib.Ieee.{Float, nan, inf, fin, binary64, up, down, size, climb, span, odd, units, of_bits, of_fields, fits, le, lt, eq}
 use lib.Ieee.Fits.{up_pos}
 use lib.Ieee.Order.{le_of_values}
-use lib.Ieee.Positive.{positive, above, positive-finite, first_pos, value_pos, values_of_le, above_of_le}
+use lib.Ieee.Positive.{positive, positive-finite, first_pos, value_pos, values_of_le, above_of_le}
 use lib.Ieee.Scale.{finite}
 use Rattle.numbers_spec.specs.Arithmetic.{zero⁺}
 use Rattle.numbers_spec.specs.Root.{root_from, near_root, root_units, root_of}

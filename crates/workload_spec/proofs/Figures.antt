@@ -1,11 +1,11 @@
 -- The figures follow from the definitions, by computation, each by itself. Assumes nothing.
 use mathlib.Core.Path.{◌≡◌, refl}
-use Rattle.std.specs.Float.{binary32, binary64}
+use Rattle.std.specs.Float.{binary32}
 use lib.Count.{count_trailing_zeros}
 use lib.Ieee.{round, units, size, span, climb, odd, mul, of_bits, of_fields, of_int}
-use Rattle.engine_spec.specs.Constants.{plus, minus, f64, nearest, Rounded}
+use Rattle.engine_spec.specs.Constants.{plus, nearest}
 use Rattle.workload_spec.specs.Draws.{step, stepped, drawn}
-use Rattle.workload_spec.specs.Load.{value_at, load_value, load_time, load_energy}
+use Rattle.workload_spec.specs.Load.{value_at, load_value, load_time}
 use Rattle.workload_spec.specs.Figures.{FromOne, FromMarsaglias, TimeRoundedOnce, EnergyIs, Figures}
 
 first_draw : drawn 1 0 ≡ 1082269761

@@ -1,7 +1,7 @@
 -- `exports::matcher_calls::write_candidates` meets its contract. The loop's invariant: the numbers of the first i candidates, and the old list behind them. Assumes nothing.
 use mathlib.Core.Path.{◌≡◌}
 use mathlib.Core.List.{◌++◌}
-use Prim.Native.Nat.{◌+◌, ◌-◌, ◌*◌, ◌≤◌}
+use Prim.Native.Nat.{◌-◌, ◌*◌, ◌≤◌}
 use lib.ListN.{length, take, drop}
 use Rattle.compare_exports.specs.MatcherCalls.{numbers_of}
 use Rattle.compare_exports.proofs.matcher_calls.write_candidates.Given as goal

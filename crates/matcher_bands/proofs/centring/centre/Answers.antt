@@ -1,8 +1,6 @@
 use borrow.Table.Elements.{same_len}
 use mathlib.Core.Path.{◌≡◌, refl, sym, ◌∙◌}
-use Prim.Native.Nat.{◌-◌}
 use native.Mathlib.Omega.{arith}
-use lib.ListN.{length-take, length-drop}
 use lib.Seq.{length-take-le}
 use Rattle.numbers_spec.proofs.RowLaws.{filling_none}
 use Rattle.matcher_bands.proofs.CentringLaws.{centred_block}

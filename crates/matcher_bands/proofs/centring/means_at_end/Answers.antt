@@ -1,4 +1,3 @@
-use Prim.Native.Nat.{◌-◌}
 use native.Mathlib.Omega.{arith}
 use Rattle.numbers_spec.proofs.RowLaws.{filling_none, filling_more, filling_all}
 use Rattle.matcher_bands.proofs.centring.means_at_end.Goals as goal

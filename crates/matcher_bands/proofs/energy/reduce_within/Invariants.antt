@@ -4,8 +4,7 @@ use Prim.Native.Nat.{ℕ, ◌+◌, ◌-◌, ◌*◌, ◌/◌, ◌≤◌}
 use mathlib.Core.List.{List, ◌++◌}
 use lib.ListN.{length, take, drop}
 use lib.Ieee.{Float}
-use Rattle.numbers_spec.specs.Rows.{rows}
-use Rattle.matcher_spec.specs.Energy.{averages, all_averages}
+use Rattle.matcher_spec.specs.Energy.{all_averages}
 use Rattle.matcher_bands.proofs.energy.reduce_within.Given as goal
 
 -- the list d with the averages of its first b rows from `to` on

@@ -1,6 +1,4 @@
-use Prim.Native.Nat.{◌-◌}
 use native.Mathlib.Omega.{arith}
-use Rattle.numbers_spec.specs.Arithmetic.{at_least}
 use Rattle.numbers_spec.proofs.RowLaws.{filling_none, filling_more, filling_all}
 use Rattle.matcher_scores.proofs.blocks.fill_products.Goals as goal
 

@@ -1,4 +1,3 @@
-use Prim.Native.Nat.{◌-◌}
 use native.Mathlib.Omega.{arith}
 use lib.Ieee.{nan}
 use Rattle.numbers_spec.proofs.RowLaws.{filling_none, filling_more, filling_next, filling_all}

@@ -1,4 +1,4 @@
-use Rattle.std.proofs.Common.{◌≡◌, ℕ, zero, suc, ◌+◌, ◌-◌, ◌*◌, ◌<◌, ◌≤◌, false, pos, refl, ap, ◌∙◌, arith, lit≤, le→leb}
+use Rattle.std.proofs.Common.{◌≡◌, ℕ, zero, suc, ◌+◌, ◌-◌, ◌*◌, ◌<◌, ◌≤◌, pos, refl, ap, ◌∙◌, arith, lit≤, le→leb}
 use lib.Ieee.{Float, binary64, add, mul, div, of_int, of_bits, in_float}
 use Rattle.numbers_spec.specs.Arithmetic.{one}
 use Rattle.numbers_spec.specs.Logarithm.{log_series}

@@ -1,5 +1,5 @@
 -- `numbers::logarithm::log_series` meets its contract: what is left of the series, from q, is the whole series from 0. Assumes nothing.
-use Rattle.std.proofs.Common.{◌≡◌, ◌-◌, ◌≤◌, false, pos}
+use Rattle.std.proofs.Common.{◌≡◌, ◌≤◌, false, pos}
 use lib.Ieee.{fin}
 use Rattle.numbers_spec.specs.Logarithm.{log_series}
 use Rattle.numbers.proofs.logarithm.log_series.Given as goal

@@ -1,4 +1,4 @@
-use Rattle.std.proofs.Common.{◌+◌, ◌-◌, ◌*◌, arith}
+use Rattle.std.proofs.Common.{◌+◌, ◌*◌, arith}
 use Rattle.numbers.proofs.root.Polished.{narrowed_down}
 use Rattle.numbers.proofs.root.bisect.Goals as goal
 

@@ -1,5 +1,5 @@
 use mathlib.Core.Path.{refl, sym, subst}
-use Prim.Native.Nat.{zero-le, ◌-◌}
+use Prim.Native.Nat.{zero-le}
 use native.Mathlib.Nat.{lt_of_lt_of_le}
 use native.Mathlib.Omega.{arith}
 use lib.Bits.{and_le_l, and_le_r}
