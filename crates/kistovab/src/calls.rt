@@ -21,8 +21,7 @@ use engine_spec::types::{ClockMs, Configuration, Maybe};
 use engine_words::snapshots::{SNAPSHOT_WORDS, write_snapshot};
 use engine_words::states::{STATE_WORDS, read_state, write_state};
 
-#[unsafe(no_mangle)]
-pub extern "C" fn kistovab_open(
+pub fn kistovab_open(
     minimum_readiness_duration_ms: f64,
     tracking_query_duration_ms: f64,
     minimum_active_frame_energy_dbfs: f64,
@@ -74,8 +73,7 @@ pub extern "C" fn kistovab_open(
 }
 
 // A re-reading leaves the state as it is, a refusal both.
-#[unsafe(no_mangle)]
-pub extern "C" fn kistovab_submit(
+pub fn kistovab_submit(
     state: &mut [u64],
     fine: &[f32],
     coarse: &[f32],
@@ -131,8 +129,7 @@ pub extern "C" fn kistovab_submit(
 }
 
 // Where there is no age, `age` is left as it is.
-#[unsafe(no_mangle)]
-pub extern "C" fn kistovab_support_age(state: &[u64], age: &mut f64) -> u32
+pub fn kistovab_support_age(state: &[u64], age: &mut f64) -> u32
     ensures value { result ≡ age_code (length state.now) (support_age (state_in state.now)) }
     ensures number { age.new ≡ age_after (length state.now) (support_age (state_in state.now)) age.old }
 {

@@ -7,8 +7,7 @@ use workload::load::fill;
 use workload::refusals::filling_number;
 
 // Fills a reference or a window from a seed, wholly, or refuses and writes nothing.
-#[unsafe(no_mangle)]
-pub extern "C" fn kistovab_fill_load(
+pub fn kistovab_fill_load(
     seed: u64,
     hop_ms: f64,
     bands: usize,

@@ -8,22 +8,19 @@ use engine_words::snapshots::SNAPSHOT_WORDS;
 use engine_words::states::STATE_WORDS;
 use matcher_spec::limits::{BANDS_MOST, FRAMES_MOST, WINDOW_MOST};
 
-#[unsafe(no_mangle)]
-pub extern "C" fn kistovab_state_words() -> usize
+pub fn kistovab_state_words() -> usize
     ensures { result ≡ state_words }
 {
     STATE_WORDS
 }
 
-#[unsafe(no_mangle)]
-pub extern "C" fn kistovab_snapshot_words() -> usize
+pub fn kistovab_snapshot_words() -> usize
     ensures { result ≡ snapshot_words }
 {
     SNAPSHOT_WORDS
 }
 
-#[unsafe(no_mangle)]
-pub extern "C" fn kistovab_fine_length(frames: usize, bands: usize) -> usize
+pub fn kistovab_fine_length(frames: usize, bands: usize) -> usize
     ensures { result ≡ fine_length frames bands }
 {
     if frames > FRAMES_MOST {
@@ -35,8 +32,7 @@ pub extern "C" fn kistovab_fine_length(frames: usize, bands: usize) -> usize
     bands * frames
 }
 
-#[unsafe(no_mangle)]
-pub extern "C" fn kistovab_coarse_length(frames: usize, bands: usize) -> usize
+pub fn kistovab_coarse_length(frames: usize, bands: usize) -> usize
     ensures { result ≡ coarse_length frames bands }
 {
     if frames > FRAMES_MOST {
@@ -48,8 +44,7 @@ pub extern "C" fn kistovab_coarse_length(frames: usize, bands: usize) -> usize
     bands * (frames / 4)
 }
 
-#[unsafe(no_mangle)]
-pub extern "C" fn kistovab_fine_energy_length(frames: usize, bands: usize) -> usize
+pub fn kistovab_fine_energy_length(frames: usize, bands: usize) -> usize
     ensures { result ≡ fine_energy_length frames bands }
 {
     if frames > FRAMES_MOST {
@@ -61,8 +56,7 @@ pub extern "C" fn kistovab_fine_energy_length(frames: usize, bands: usize) -> us
     bands * (frames + 1)
 }
 
-#[unsafe(no_mangle)]
-pub extern "C" fn kistovab_coarse_energy_length(frames: usize, bands: usize) -> usize
+pub fn kistovab_coarse_energy_length(frames: usize, bands: usize) -> usize
     ensures { result ≡ coarse_energy_length frames bands }
 {
     if frames > FRAMES_MOST {
@@ -74,8 +68,7 @@ pub extern "C" fn kistovab_coarse_energy_length(frames: usize, bands: usize) -> 
     bands * (frames / 4 + 1)
 }
 
-#[unsafe(no_mangle)]
-pub extern "C" fn kistovab_work32_length(frames: usize, bands: usize) -> usize
+pub fn kistovab_work32_length(frames: usize, bands: usize) -> usize
     ensures { result ≡ work32_length frames bands }
 {
     if frames > WINDOW_MOST {
@@ -87,12 +80,7 @@ pub extern "C" fn kistovab_work32_length(frames: usize, bands: usize) -> usize
     2 * (bands * frames)
 }
 
-#[unsafe(no_mangle)]
-pub extern "C" fn kistovab_work64_length(
-    frames: usize,
-    bands: usize,
-    reference_frames: usize,
-) -> usize
+pub fn kistovab_work64_length(frames: usize, bands: usize, reference_frames: usize) -> usize
     ensures { result ≡ work64_length frames bands reference_frames }
 {
     if frames > WINDOW_MOST {

@@ -11,16 +11,14 @@ use engine_refusals::refusals::{is_refusal, number_of};
 use engine_words::states::{STATE_WORDS, read_state, write_state};
 use places::store::{STORE_WORDS, keep, restore};
 
-#[unsafe(no_mangle)]
-pub extern "C" fn kistovab_store_words() -> usize
+pub fn kistovab_store_words() -> usize
     ensures { result ≡ store_words }
 {
     STORE_WORDS
 }
 
 // A refusal leaves the store as it is.
-#[unsafe(no_mangle)]
-pub extern "C" fn kistovab_keep(state: &[u64], name: usize, store: &mut [u64]) -> u32
+pub fn kistovab_keep(state: &[u64], name: usize, store: &mut [u64]) -> u32
     ensures value { result ≡ keep_code (length state.now) name (length store.old) }
     ensures words { store.new ≡ kept_after (length state.now) (state_in state.now) name store.old }
     ensures back { result ≡ 0 → ReadsBack (state_in state.now) }
@@ -34,8 +32,7 @@ pub extern "C" fn kistovab_keep(state: &[u64], name: usize, store: &mut [u64]) -
 }
 
 // A refusal leaves the state as it is.
-#[unsafe(no_mangle)]
-pub extern "C" fn kistovab_restore(state: &mut [u64], name: usize, store: &[u64]) -> u32
+pub fn kistovab_restore(state: &mut [u64], name: usize, store: &[u64]) -> u32
     ensures value { result ≡ restore_code (length state.old) (restored (state_in state.old) name store.now) }
     ensures words { Restores result (restored (state_in state.old) name store.now) state.old state.new }
 {

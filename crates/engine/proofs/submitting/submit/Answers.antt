@@ -13,8 +13,13 @@ use Rattle.engine.proofs.submitting.submit.Goals as goal
 
 pub returns-then-is_refusal : goal.returns-then-is_refusal
 returns-then-is_refusal c =
-    record { value = submit_refused _ _ c.refused.ensures c.submission_refusal-refusal.ensures
-      (refusal_tested _ c.submission_refusal-refusal.ensures c.is_refusal.ensures c.if-is_refusal.true); untouched = (λ h. (refl, refl)); lengths = (refl, refl); held = (λ k u. c.shared_slice_known-7-1.given k) }
+    record {
+      value = submit_refused _ _ c.refused.ensures c.submission_refusal-refusal.ensures
+          (refusal_tested _ c.submission_refusal-refusal.ensures c.is_refusal.ensures c.if-is_refusal.true);
+      untouched = (λ h. (refl, refl));
+      lengths = (refl, refl);
+      held = (λ k u. c.shared_slice_known-7-1.given k);
+    }
 
 pub answered-requires : goal.answered-requires
 answered-requires c =

@@ -20,10 +20,14 @@ returns-then-not-may_coast c =
     let s = a.settings in
     let m = matcher_in s (lent a.fine.now a.coarse.now a.fine_energy.now a.coarse_energy.now) in
     let w = window a.bands a.times.now a.energies.now a.values.now in
-    let none = c.nothing_found-then-not-may_coast.ensures in record { result_value = rw c.in-Held.is
+    let none = c.nothing_found-then-not-may_coast.ensures in record {
+      result_value = rw c.in-Held.is
           (c.unsupported-then-not-may_coast.ensures.result_value
           ∙ ap (λ (l : List Candidate). unsupported hypothesis.Absent l) (listed_result [] none)
-          ∙ dropped _ _ _ _ _ m (query w) (sym c.may_coast.ensures ∙ not-true _ c.if-not-may_coast.true-raw)); count_le_candidates_most = found_few [] (c.unsupported-then-not-may_coast.ensures.found_value ∙ none) (lit≤ tt); filled_query_2 = c.requires.filled_query }
+          ∙ dropped _ _ _ _ _ m (query w) (sym c.may_coast.ensures ∙ not-true _ c.if-not-may_coast.true-raw));
+      count_le_candidates_most = found_few [] (c.unsupported-then-not-may_coast.ensures.found_value ∙ none) (lit≤ tt);
+      filled_query_2 = c.requires.filled_query;
+    }
 
 pub local_found-found-requires : goal.local_found-found-requires
 local_found-found-requires c =
@@ -43,5 +47,9 @@ returns-else-not-may_coast c =
     let m = matcher_in s (lent a.fine.now a.coarse.now a.fine_energy.now a.coarse_energy.now) in
     let w = window a.bands a.times.now a.energies.now a.values.now in
     let x = c.reference_of.ensures in
-    record { result_value = rw c.in-Held.is
-          (coasted _ _ _ _ _ m (query w) c.followed.ensures.result_value (rw x at c.local_found-found.ensures.value) (sym c.may_coast.ensures ∙ not-false _ c.if-not-may_coast.false-raw)); count_le_candidates_most = rw c.followed.ensures.found_value c.local_found-found.ensures.count_le_candidates_most; filled_query_2 = filled_of x c.local_found-found.ensures.filled_query_2 }
+    record {
+      result_value = rw c.in-Held.is
+          (coasted _ _ _ _ _ m (query w) c.followed.ensures.result_value (rw x at c.local_found-found.ensures.value) (sym c.may_coast.ensures ∙ not-false _ c.if-not-may_coast.false-raw));
+      count_le_candidates_most = rw c.followed.ensures.found_value c.local_found-found.ensures.count_le_candidates_most;
+      filled_query_2 = filled_of x c.local_found-found.ensures.filled_query_2;
+    }

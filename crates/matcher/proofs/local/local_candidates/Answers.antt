@@ -35,8 +35,11 @@ returns-then-is_finite-lower c =
     let fine = lent_bands a.reference.bands a.reference.frames a.fine.now a.energy.now in
     let query = lent_bands a.reference.bands a.n a.work32.now a.work64.now in
     let low = c.at_least-low.ensures ∙ ap (at_least zero⁺) c.ceil.ensures in
-    let high = c.at_most-high.ensures ∙ (λ i. at_most (c.real.ensures i) (c.floor.ensures i)) in record { value = local_pushed a.reference fine query a.start a.lower a.upper c.nothing_found.result c.push.result c.push.ensures c.nothing_found.ensures
-          c.is_finite.ensures c.is_finite-2.ensures low high c.if-is_finite-lower.true c.query_candidate-c.ensures.value c.count.ensures c.count-then-is_finite-lower.ensures; work64_unchanged = c.query_candidate-c.ensures.work64_unchanged }
+    let high = c.at_most-high.ensures ∙ (λ i. at_most (c.real.ensures i) (c.floor.ensures i)) in record {
+      value = local_pushed a.reference fine query a.start a.lower a.upper c.nothing_found.result c.push.result c.push.ensures c.nothing_found.ensures
+          c.is_finite.ensures c.is_finite-2.ensures low high c.if-is_finite-lower.true c.query_candidate-c.ensures.value c.count.ensures c.count-then-is_finite-lower.ensures;
+      work64_unchanged = c.query_candidate-c.ensures.work64_unchanged;
+    }
 
 pub returns : goal.returns
 unfolding of_bits
@@ -45,5 +48,8 @@ returns c =
     let fine = lent_bands a.reference.bands a.reference.frames a.fine.now a.energy.now in
     let query = lent_bands a.reference.bands a.n a.work32.now a.work64.now in
     let low = c.at_least-low.ensures ∙ ap (at_least zero⁺) c.ceil.ensures in
-    let high = c.at_most-high.ensures ∙ (λ i. at_most (c.real.ensures i) (c.floor.ensures i)) in record { value = c.nothing_found-2.ensures
-          ∙ ap (λ (l : List Candidate). result_of l) (local_none a.reference fine query a.start a.lower a.upper c.is_finite.ensures c.is_finite-2.ensures low high c.if-is_finite-lower.false); work64_unchanged = refl }
+    let high = c.at_most-high.ensures ∙ (λ i. at_most (c.real.ensures i) (c.floor.ensures i)) in record {
+      value = c.nothing_found-2.ensures
+          ∙ ap (λ (l : List Candidate). result_of l) (local_none a.reference fine query a.start a.lower a.upper c.is_finite.ensures c.is_finite-2.ensures low high c.if-is_finite-lower.false);
+      work64_unchanged = refl;
+    }

@@ -28,5 +28,8 @@ returns c =
     let bands : ℕ = a.reference.bands in
     let places : ℕ = a.reference.frames / 4 - a.n / 4 + 1 in
     let v : List Float = c.score_averages.new.query in
-    let w : List Float = c.score_averages.new.work in record { work64_after = averaged_lent bands a.n (a.reference.frames / 4) a.coarse.now a.energy.now a.work32.now a.work64.now
-          (take places (drop (bands * (a.n + 1) + bands * (a.n / 4 + 1)) w)) c.score_averages.ensures.work_after; work64_unchanged = query_stays bands a.n v a.work32.now w a.work64.now c.score_averages.ensures.query_unchanged c.score_averages.ensures.work_unchanged }
+    let w : List Float = c.score_averages.new.work in record {
+      work64_after = averaged_lent bands a.n (a.reference.frames / 4) a.coarse.now a.energy.now a.work32.now a.work64.now
+          (take places (drop (bands * (a.n + 1) + bands * (a.n / 4 + 1)) w)) c.score_averages.ensures.work_after;
+      work64_unchanged = query_stays bands a.n v a.work32.now w a.work64.now c.score_averages.ensures.query_unchanged c.score_averages.ensures.work_unchanged;
+    }

@@ -23,5 +23,9 @@ returns c =
     let w : List Float = c.score_places.new.work in
     let coarse = bands_of (a.reference.frames / 4) a.coarse.now a.energy.now in
     let same : a.from + k - a.from ≡ k = omega arith in
-    let values = ◌∙◌ {b = take k (drop a.from q)} {c = (reduced bands (bands_of a.n (take (bands * a.n) a.query.now) [])).values} (ap (λ (i : ℕ). take i (drop a.from q)) same) c.reduce_query.ensures.query_after in record { work_after = averaged_is bands a.n coarse (take (bands * a.n) a.query.now) (take places (drop (a.at + j) w)) (take (a.from + k - a.from) (drop a.from q)) (take j (drop a.at v))
-          c.score_places.ensures.work_after values c.reduce_query.ensures.work_after; query_unchanged = c.reduce_query.ensures.query_unchanged; work_unchanged = ◌∙◌ {b = take a.at v} (shorter_front a.at (a.at + j) w v (omega arith) c.score_places.ensures.work_unchanged) c.reduce_query.ensures.work_unchanged }
+    let values = ◌∙◌ {b = take k (drop a.from q)} {c = (reduced bands (bands_of a.n (take (bands * a.n) a.query.now) [])).values} (ap (λ (i : ℕ). take i (drop a.from q)) same) c.reduce_query.ensures.query_after in record {
+      work_after = averaged_is bands a.n coarse (take (bands * a.n) a.query.now) (take places (drop (a.at + j) w)) (take (a.from + k - a.from) (drop a.from q)) (take j (drop a.at v))
+          c.score_places.ensures.work_after values c.reduce_query.ensures.work_after;
+      query_unchanged = c.reduce_query.ensures.query_unchanged;
+      work_unchanged = ◌∙◌ {b = take a.at v} (shorter_front a.at (a.at + j) w v (omega arith) c.score_places.ensures.work_unchanged) c.reduce_query.ensures.work_unchanged;
+    }

@@ -83,5 +83,8 @@ returns c =
     let held = bands_of a.n (take (bands * a.n) v) (take (bands * (a.n + 1)) e) in
     let all : from + places - from ≡ places = omega arith in
     let scores = ◌∙◌ {b = take places (drop from e)} {c = coarse_scores bands coarse query} (ap (λ (k : ℕ). take k (drop from e)) all) scored.ensures.work64_after in
-    let stays = ◌∙◌ {b = lent_bands bands a.n v e} {c = query} (lent_is bands a.n v e) scored.ensures.work64_unchanged in record { value = whole_made x fine coarse query a.start part held (take (from + places - from) (drop from e)) picked.result found.result c.keep_independent.result c.keep_independent.ensures found.ensures.value
-          (lent_is bands x.frames a.fine.now a.fine_energy.now) stays picked.ensures.value scores c.peak_separation.ensures; count_le_candidates_most = independent_few found.result c.keep_independent.ensures found.ensures.count_le_candidates_most }
+    let stays = ◌∙◌ {b = lent_bands bands a.n v e} {c = query} (lent_is bands a.n v e) scored.ensures.work64_unchanged in record {
+      value = whole_made x fine coarse query a.start part held (take (from + places - from) (drop from e)) picked.result found.result c.keep_independent.result c.keep_independent.ensures found.ensures.value
+          (lent_is bands x.frames a.fine.now a.fine_energy.now) stays picked.ensures.value scores c.peak_separation.ensures;
+      count_le_candidates_most = independent_few found.result c.keep_independent.ensures found.ensures.count_le_candidates_most;
+    }

@@ -14,8 +14,12 @@ pub returns-then-low-high : goal.returns-then-low-high
 returns-then-low-high c =
     let a = c.args in
     let fine = bands_of a.reference.frames a.fine.now a.energy.now in
-    let query = bands_of a.n a.query.now (take (a.reference.bands * (a.n + 1)) a.work.now) in record { count_bound = inserted_count a.found c.best_candidate-c.result c.insert_by_score.ensures; value = result_with a.reference fine query a.start a.found a.peak c.insert_by_score.result c.insert_by_score.ensures c.best_candidate-c.ensures.value
-            c.saturating_sub-low.ensures c.min-high.ensures c.if-low-high.true; work_unchanged = c.best_candidate-c.ensures.work_unchanged }
+    let query = bands_of a.n a.query.now (take (a.reference.bands * (a.n + 1)) a.work.now) in record {
+      count_bound = inserted_count a.found c.best_candidate-c.result c.insert_by_score.ensures;
+      value = result_with a.reference fine query a.start a.found a.peak c.insert_by_score.result c.insert_by_score.ensures c.best_candidate-c.ensures.value
+          c.saturating_sub-low.ensures c.min-high.ensures c.if-low-high.true;
+      work_unchanged = c.best_candidate-c.ensures.work_unchanged;
+    }
 
 pub returns : goal.returns
 returns c =

@@ -13,8 +13,7 @@ loop-at-preserved c =
     let block = c.centre_block in
     let a = c.args in
     let l = c.loop-at in
-    let n = c.min-n.result in
-    (
+    let n = c.min-n.result in (
       omega arith,
       same_len n l.wide block.new.wide block.auto.wide ∙ l.invariant.1,
       same_len n l.means block.new.means block.auto.means ∙ l.invariant.2,

@@ -21,5 +21,8 @@ returns c =
     let same : a.at + places - a.at ≡ places = omega arith in
     let all : front - 0 ≡ front = omega arith in
     let fine = bands_of a.reference.frames a.fine.now a.energy.now in
-    let energies = ◌∙◌ {b = take front after} (ap (λ (k : ℕ). take k after) all) (shorter_front front a.at after w before c.score_places.ensures.work_unchanged) in record { value = best_is a.reference fine a.n a.query.now (take front w) a.start a.low a.high a.at (a.at + places - a.at) after (take (front - 0) after) c.candidate_of.result
-          c.candidate_of.ensures energies same c.score_places.ensures.work_after; work_unchanged = c.score_places.ensures.work_unchanged }
+    let energies = ◌∙◌ {b = take front after} (ap (λ (k : ℕ). take k after) all) (shorter_front front a.at after w before c.score_places.ensures.work_unchanged) in record {
+      value = best_is a.reference fine a.n a.query.now (take front w) a.start a.low a.high a.at (a.at + places - a.at) after (take (front - 0) after) c.candidate_of.result
+          c.candidate_of.ensures energies same c.score_places.ensures.work_after;
+      work_unchanged = c.score_places.ensures.work_unchanged;
+    }

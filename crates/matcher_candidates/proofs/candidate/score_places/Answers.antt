@@ -36,5 +36,8 @@ returns c =
     let lent : length (take (a.at + a.places - a.at) (drop a.at w)) ≡ a.places = simp (length-take, length-drop) (omega arith) in
     let size : length scores ≡ a.places = c.correlations.auto.scores ∙ lent in
     let same : a.from + a.bands * (a.n + 1) - a.from ≡ a.bands * (a.n + 1) = omega arith in
-    let whole = c.whole_energies-whole in record { work_after = ◌∙◌ {b = scores} (put_is a.at (a.at + a.places - a.at) a.places w scores (omega arith) size)
-          (scores_are a.bands reference a.n a.query.now a.low a.places (a.bands * (a.n + 1)) a.from (length (take (a.at + a.places - a.at) (drop a.at w))) w (take a.bands whole.result) scores c.correlations.ensures lent (whole_front a.bands a.n _ _ whole.ensures) same); work_unchanged = take_put a.at (a.at + a.places - a.at) w scores (omega arith) }
+    let whole = c.whole_energies-whole in record {
+      work_after = ◌∙◌ {b = scores} (put_is a.at (a.at + a.places - a.at) a.places w scores (omega arith) size)
+          (scores_are a.bands reference a.n a.query.now a.low a.places (a.bands * (a.n + 1)) a.from (length (take (a.at + a.places - a.at) (drop a.at w))) w (take a.bands whole.result) scores c.correlations.ensures lent (whole_front a.bands a.n _ _ whole.ensures) same);
+      work_unchanged = take_put a.at (a.at + a.places - a.at) w scores (omega arith);
+    }

@@ -11,7 +11,6 @@ use Rattle.matcher_dots.proofs.tiles.dots.Goals as goal
 pub loop-out-init : goal.loop-out-init
 loop-out-init c = filling_none _ _
 
-
 pub loop-out-preserved : goal.loop-out-preserved
 loop-out-preserved c =
     let a = c.args in

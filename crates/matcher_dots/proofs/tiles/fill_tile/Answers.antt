@@ -14,7 +14,6 @@ pub loop-j-init : goal.loop-j-init
 unfolding first_lanes tabulate
 loop-j-init c = (omega arith, refl, refl)
 
-
 pub loop-j-preserved : goal.loop-j-preserved
 loop-j-preserved c =
     let a = c.args in

@@ -19,6 +19,9 @@ pub returns : goal.returns
 returns c =
     let a = c.args in
     let size = a.n / 4 in
-    let averages = all_averages a.bands a.n a.fine.now in record { coarse_after = c.reduce_bands.ensures; energy_after = ◌∙◌ {b = all_energies a.bands size (take (a.bands * size) c.reduce_bands.new.out) ++ drop (a.bands * (size + 1)) a.energy.now} c.fill_energies.ensures
+    let averages = all_averages a.bands a.n a.fine.now in record {
+      coarse_after = c.reduce_bands.ensures;
+      energy_after = ◌∙◌ {b = all_energies a.bands size (take (a.bands * size) c.reduce_bands.new.out) ++ drop (a.bands * (size + 1)) a.energy.now} c.fill_energies.ensures
           (ap (λ (l : List Float). all_energies a.bands size l ++ drop (a.bands * (size + 1)) a.energy.now)
-          (front_is averages a.coarse.now (a.bands * size) c.reduce_bands.ensures c.reduce_bands.auto.out (omega arith))) }
+          (front_is averages a.coarse.now (a.bands * size) c.reduce_bands.ensures c.reduce_bands.auto.out (omega arith)));
+    }

@@ -45,8 +45,14 @@ returns c =
     let rule : ℕ → List Float = λ k. fine_values k bands n v in
     let fine = ◌∙◌ {b = rule c.radius.result ++ drop (bands * n) a.fine.now} c.fill_fine.ensures.fine_after (ap (λ (k : ℕ). rule k ++ drop (bands * n) a.fine.now) r) in
     let energy = ◌∙◌ {b = all_energies bands n (rule c.radius.result) ++ drop (bands * (n + 1)) a.fine_energy.now} c.fill_fine.ensures.energy_after (ap (λ (k : ℕ). all_energies bands n (rule k) ++ drop (bands * (n + 1)) a.fine_energy.now) r) in
-    let whole = front_is f a.fine.now (bands * n) fine c.fill_fine.auto.fine (omega arith) in record { value = sym (sym c.accepts_reference.ensures ∙ not-false _ c.if-not-accepts_reference.false-raw); fine_after = front_filled f a.fine.now (bands * n) fine c.fill_fine.auto.fine (omega arith); coarse_after = front_filled (all_averages bands n f) a.coarse.now (bands * (n / 4))
-              (◌∙◌ {b = all_averages bands n taken ++ drop (bands * (n / 4)) a.coarse.now} c.fill_coarse.ensures.coarse_after (ap (λ (l : List Float). all_averages bands n l ++ drop (bands * (n / 4)) a.coarse.now) whole))
-              c.fill_coarse.auto.coarse (omega arith); fine_energy_after = front_filled (all_energies bands n f) a.fine_energy.now (bands * (n + 1)) energy c.fill_fine.auto.energy (omega arith); coarse_energy_after = front_filled (all_energies bands (n / 4) (all_averages bands n f)) a.coarse_energy.now (bands * (n / 4 + 1))
-                (◌∙◌ {b = all_energies bands (n / 4) (all_averages bands n taken) ++ drop (bands * (n / 4 + 1)) a.coarse_energy.now} c.fill_coarse.ensures.energy_after (ap (λ (l : List Float). all_energies bands (n / 4) (all_averages bands n l) ++ drop (bands * (n / 4 + 1)) a.coarse_energy.now) whole))
-                c.fill_coarse.auto.energy (omega arith) }
+    let whole = front_is f a.fine.now (bands * n) fine c.fill_fine.auto.fine (omega arith) in record {
+      value = sym (sym c.accepts_reference.ensures ∙ not-false _ c.if-not-accepts_reference.false-raw);
+      fine_after = front_filled f a.fine.now (bands * n) fine c.fill_fine.auto.fine (omega arith);
+      coarse_after = front_filled (all_averages bands n f) a.coarse.now (bands * (n / 4))
+          (◌∙◌ {b = all_averages bands n taken ++ drop (bands * (n / 4)) a.coarse.now} c.fill_coarse.ensures.coarse_after (ap (λ (l : List Float). all_averages bands n l ++ drop (bands * (n / 4)) a.coarse.now) whole))
+          c.fill_coarse.auto.coarse (omega arith);
+      fine_energy_after = front_filled (all_energies bands n f) a.fine_energy.now (bands * (n + 1)) energy c.fill_fine.auto.energy (omega arith);
+      coarse_energy_after = front_filled (all_energies bands (n / 4) (all_averages bands n f)) a.coarse_energy.now (bands * (n / 4 + 1))
+          (◌∙◌ {b = all_energies bands (n / 4) (all_averages bands n taken) ++ drop (bands * (n / 4 + 1)) a.coarse_energy.now} c.fill_coarse.ensures.energy_after (ap (λ (l : List Float). all_energies bands (n / 4) (all_averages bands n l) ++ drop (bands * (n / 4 + 1)) a.coarse_energy.now) whole))
+          c.fill_coarse.auto.energy (omega arith);
+    }

@@ -29,8 +29,7 @@ loop-i-preserved c =
     let l = c.loop-i in
     let k = c.padded-k.result in
     let end = c.block_end-end in
-    let inv = l.invariant.0 in
-    (
+    let inv = l.invariant.0 in (
       block_more _ _ _ _ _ _ _ l.i end.result inv c.add_block.ensures (omega arith) (omega arith),
       same_len k l.dotted c.add_block.new.dotted c.add_block.auto.dotted ∙ l.invariant.1,
       same_len k l.products c.add_block.new.products c.add_block.auto.products ∙ l.invariant.2,

@@ -15,49 +15,57 @@ pub part_nth-score-requires : goal.part_nth-score-requires
 part_nth-score-requires c =
     let a = c.args in
     let w = c.loop-b-test.true in
-    record { frames_in_bounds_1 = omega (
-      arith,
-      row_within c.loop-b.b a.bands a.frames w,
-      row_within c.loop-b.b a.bands (a.frames + 1) w,
-      row_within c.loop-b.b a.bands a.count w,
-      row_within c.loop-b.b a.bands (a.count + 1) w,
-    ); frames_in_bounds_2 = omega (
-      arith,
-      row_within c.loop-b.b a.bands a.frames w,
-      row_within c.loop-b.b a.bands (a.frames + 1) w,
-      row_within c.loop-b.b a.bands a.count w,
-      row_within c.loop-b.b a.bands (a.count + 1) w,
-    ); count_in_bounds_1 = omega (
-      arith,
-      row_within c.loop-b.b a.bands a.frames w,
-      row_within c.loop-b.b a.bands (a.frames + 1) w,
-      row_within c.loop-b.b a.bands a.count w,
-      row_within c.loop-b.b a.bands (a.count + 1) w,
-    ); count_in_bounds_2 = omega (
-      arith,
-      row_within c.loop-b.b a.bands a.frames w,
-      row_within c.loop-b.b a.bands (a.frames + 1) w,
-      row_within c.loop-b.b a.bands a.count w,
-      row_within c.loop-b.b a.bands (a.count + 1) w,
-    ); low_le_high_1 = omega (
-      arith,
-      row_within c.loop-b.b a.bands a.frames w,
-      row_within c.loop-b.b a.bands (a.frames + 1) w,
-      row_within c.loop-b.b a.bands a.count w,
-      row_within c.loop-b.b a.bands (a.count + 1) w,
-    ); low_le_high_2 = omega (
-      arith,
-      row_within c.loop-b.b a.bands a.frames w,
-      row_within c.loop-b.b a.bands (a.frames + 1) w,
-      row_within c.loop-b.b a.bands a.count w,
-      row_within c.loop-b.b a.bands (a.count + 1) w,
-    ); low_le_high_3 = omega (
-      arith,
-      row_within c.loop-b.b a.bands a.frames w,
-      row_within c.loop-b.b a.bands (a.frames + 1) w,
-      row_within c.loop-b.b a.bands a.count w,
-      row_within c.loop-b.b a.bands (a.count + 1) w,
-    ) }
+    record {
+      frames_in_bounds_1 = omega (
+        arith,
+        row_within c.loop-b.b a.bands a.frames w,
+        row_within c.loop-b.b a.bands (a.frames + 1) w,
+        row_within c.loop-b.b a.bands a.count w,
+        row_within c.loop-b.b a.bands (a.count + 1) w,
+      );
+      frames_in_bounds_2 = omega (
+        arith,
+        row_within c.loop-b.b a.bands a.frames w,
+        row_within c.loop-b.b a.bands (a.frames + 1) w,
+        row_within c.loop-b.b a.bands a.count w,
+        row_within c.loop-b.b a.bands (a.count + 1) w,
+      );
+      count_in_bounds_1 = omega (
+        arith,
+        row_within c.loop-b.b a.bands a.frames w,
+        row_within c.loop-b.b a.bands (a.frames + 1) w,
+        row_within c.loop-b.b a.bands a.count w,
+        row_within c.loop-b.b a.bands (a.count + 1) w,
+      );
+      count_in_bounds_2 = omega (
+        arith,
+        row_within c.loop-b.b a.bands a.frames w,
+        row_within c.loop-b.b a.bands (a.frames + 1) w,
+        row_within c.loop-b.b a.bands a.count w,
+        row_within c.loop-b.b a.bands (a.count + 1) w,
+      );
+      low_le_high_1 = omega (
+        arith,
+        row_within c.loop-b.b a.bands a.frames w,
+        row_within c.loop-b.b a.bands (a.frames + 1) w,
+        row_within c.loop-b.b a.bands a.count w,
+        row_within c.loop-b.b a.bands (a.count + 1) w,
+      );
+      low_le_high_2 = omega (
+        arith,
+        row_within c.loop-b.b a.bands a.frames w,
+        row_within c.loop-b.b a.bands (a.frames + 1) w,
+        row_within c.loop-b.b a.bands a.count w,
+        row_within c.loop-b.b a.bands (a.count + 1) w,
+      );
+      low_le_high_3 = omega (
+        arith,
+        row_within c.loop-b.b a.bands a.frames w,
+        row_within c.loop-b.b a.bands (a.frames + 1) w,
+        row_within c.loop-b.b a.bands a.count w,
+        row_within c.loop-b.b a.bands (a.count + 1) w,
+      );
+    }
 
 pub loop-b-preserved : goal.loop-b-preserved
 loop-b-preserved c = (omega arith, sum_more _ _ c.loop-b.invariant.1 c.part_nth-score.ensures)

@@ -31,55 +31,64 @@ pub add_nth-requires : goal.add_nth-requires
 add_nth-requires c =
     let a = c.args in
     let w = c.loop-b-test.true in
-    record { frames_in_bounds_1 = omega (
-      arith,
-      row_within c.loop-b.b a.bands a.frames w,
-      row_within c.loop-b.b a.bands (a.frames + 1) w,
-      row_within c.loop-b.b a.bands a.count w,
-      c.clear.auto.scores,
-    ); frames_in_bounds_2 = omega (
-      arith,
-      row_within c.loop-b.b a.bands a.frames w,
-      row_within c.loop-b.b a.bands (a.frames + 1) w,
-      row_within c.loop-b.b a.bands a.count w,
-      c.clear.auto.scores,
-    ); count_in_bounds_1 = omega (
-      arith,
-      row_within c.loop-b.b a.bands a.frames w,
-      row_within c.loop-b.b a.bands (a.frames + 1) w,
-      row_within c.loop-b.b a.bands a.count w,
-      c.clear.auto.scores,
-    ); count_in_bounds_2 = omega (
-      arith,
-      row_within c.loop-b.b a.bands a.frames w,
-      row_within c.loop-b.b a.bands (a.frames + 1) w,
-      row_within c.loop-b.b a.bands a.count w,
-      c.clear.auto.scores,
-    ); count_bound = omega (
-      arith,
-      row_within c.loop-b.b a.bands a.frames w,
-      row_within c.loop-b.b a.bands (a.frames + 1) w,
-      row_within c.loop-b.b a.bands a.count w,
-      c.clear.auto.scores,
-    ); dotted_len_1 = omega (
-      arith,
-      row_within c.loop-b.b a.bands a.frames w,
-      row_within c.loop-b.b a.bands (a.frames + 1) w,
-      row_within c.loop-b.b a.bands a.count w,
-      c.clear.auto.scores,
-    ); dotted_len_2 = omega (
-      arith,
-      row_within c.loop-b.b a.bands a.frames w,
-      row_within c.loop-b.b a.bands (a.frames + 1) w,
-      row_within c.loop-b.b a.bands a.count w,
-      c.clear.auto.scores,
-    ); dotted_len_3 = omega (
-      arith,
-      row_within c.loop-b.b a.bands a.frames w,
-      row_within c.loop-b.b a.bands (a.frames + 1) w,
-      row_within c.loop-b.b a.bands a.count w,
-      c.clear.auto.scores,
-    ) }
+    record {
+      frames_in_bounds_1 = omega (
+        arith,
+        row_within c.loop-b.b a.bands a.frames w,
+        row_within c.loop-b.b a.bands (a.frames + 1) w,
+        row_within c.loop-b.b a.bands a.count w,
+        c.clear.auto.scores,
+      );
+      frames_in_bounds_2 = omega (
+        arith,
+        row_within c.loop-b.b a.bands a.frames w,
+        row_within c.loop-b.b a.bands (a.frames + 1) w,
+        row_within c.loop-b.b a.bands a.count w,
+        c.clear.auto.scores,
+      );
+      count_in_bounds_1 = omega (
+        arith,
+        row_within c.loop-b.b a.bands a.frames w,
+        row_within c.loop-b.b a.bands (a.frames + 1) w,
+        row_within c.loop-b.b a.bands a.count w,
+        c.clear.auto.scores,
+      );
+      count_in_bounds_2 = omega (
+        arith,
+        row_within c.loop-b.b a.bands a.frames w,
+        row_within c.loop-b.b a.bands (a.frames + 1) w,
+        row_within c.loop-b.b a.bands a.count w,
+        c.clear.auto.scores,
+      );
+      count_bound = omega (
+        arith,
+        row_within c.loop-b.b a.bands a.frames w,
+        row_within c.loop-b.b a.bands (a.frames + 1) w,
+        row_within c.loop-b.b a.bands a.count w,
+        c.clear.auto.scores,
+      );
+      dotted_len_1 = omega (
+        arith,
+        row_within c.loop-b.b a.bands a.frames w,
+        row_within c.loop-b.b a.bands (a.frames + 1) w,
+        row_within c.loop-b.b a.bands a.count w,
+        c.clear.auto.scores,
+      );
+      dotted_len_2 = omega (
+        arith,
+        row_within c.loop-b.b a.bands a.frames w,
+        row_within c.loop-b.b a.bands (a.frames + 1) w,
+        row_within c.loop-b.b a.bands a.count w,
+        c.clear.auto.scores,
+      );
+      dotted_len_3 = omega (
+        arith,
+        row_within c.loop-b.b a.bands a.frames w,
+        row_within c.loop-b.b a.bands (a.frames + 1) w,
+        row_within c.loop-b.b a.bands a.count w,
+        c.clear.auto.scores,
+      );
+    }
 
 pub loop-b-preserved : goal.loop-b-preserved
 loop-b-preserved c =

@@ -20,7 +20,10 @@ returns c =
     let row = c.narrow_row in
     let n = a.at + a.n - a.at in
     let wide = a.wide.now in
-    let long : length row.new.out ≡ a.n = row.auto.out ∙ simp (length-take, length-drop) (omega arith) in record { by_index = put_before a.at n a.logs.now row.new.out (omega arith); by_index_2 = λ k b. put_within a.at n a.logs.now row.new.out (omega arith) k (omega (arith, long))
+    let long : length row.new.out ≡ a.n = row.auto.out ∙ simp (length-take, length-drop) (omega arith) in record {
+      by_index = put_before a.at n a.logs.now row.new.out (omega arith);
+      by_index_2 = λ k b. put_within a.at n a.logs.now row.new.out (omega arith) k (omega (arith, long))
           ∙ ap (λ (l : List Float). get_or l k nan) row.ensures
           ∙ narrowed_at (take (a.n - 0) wide) k
-          ∙ ap nearest_f32 (get_or-take (a.n - 0) wide k nan (omega arith)) }
+          ∙ ap nearest_f32 (get_or-take (a.n - 0) wide k nan (omega arith));
+    }
