@@ -29,7 +29,7 @@ pub fn text(recorded: &Recorded) -> String {
     let bands = reference.bands;
     let fields = format!("bands = {bands}; times = {times}; values = {values}");
     define("reference".into(), "Features", record(&fields));
-    let index = "openedIndex configuration hop reference (roomFor reference)";
+    let index = "opened_index configuration hop reference (room_for reference)";
     define("index".into(), "Index", index.into());
     let turns = session.submissions.iter().zip(&recorded.outcomes);
     for (n, (submission, outcome)) in (1..).zip(turns) {
@@ -69,26 +69,24 @@ fn with_titles<'a>(text: String, submissions: impl Iterator<Item = &'a Submissio
 const HEAD: &str = "\
 -- A session of the Rust, recorded by `compare/run --sessions`, which writes this file: not to be edited by hand. Definitions only.
 -- `fin s m (pos k)` is m × 2^k and `fin s m (negsuc k)` is m × 2^-(k + 1), below zero where s is true.
-use mathlib.Core.Bool.{true, false}
-use mathlib.Core.List.{[], _∷_}
-use lib.IntN.{pos, negsuc}
-use lib.Ieee.{Float, fin, inf}
-use Rattle·matcher_spec.specs.Index.{Index}
-use Rattle·engine_spec.specs.Windows.{Window}
-use Rattle·matcher_spec.specs.Features.{Features}
-use Rattle·engine_spec.specs.Opening.{openedIndex}
-use Rattle·engine_spec.specs.declared.types.Configuration.{Configuration}
-use Rattle·engine_spec.specs.declared.types.Snapshot.{Snapshot}
-use Rattle·engine_spec.specs.declared.types.State.the-variants as state
-use Rattle·engine_spec.specs.declared.types.LockPhase.the-variants as phase
-use Rattle·engine_spec.specs.declared.types.Stage.the-variants as stage
-use Rattle·engine_spec.specs.declared.types.WithholdReason.the-variants as reason
-use Rattle·engine_spec.specs.declared.types.Estimate.the-variants as estimate
-use Rattle·engine_spec.specs.declared.types.Maybe.the-variants as maybe
-use Rattle·engine_spec.specs.declared.types.Milestone.the-variants as milestone
-use Rattle·engine_spec.specs.declared.types.Hypothesis.the-variants as hypothesis
-use Rattle·engine_spec.specs.declared.types.Refusal.the-variants as refusal
-use Rattle·engine_sessions·specs.specs.Session.{Session, Turn, roomFor, heard, heardWithoutWork, eight, refusal, answered}
+use Rattle.std.specs.Prelude.{true, false, [], ◌∷◌, pos, negsuc, Float}
+use Rattle.std.specs.Float.{fin, inf}
+use Rattle.matcher_spec.specs.Index.{Index}
+use Rattle.engine_spec.specs.Windows.{Window}
+use Rattle.matcher_spec.specs.Features.{Features}
+use Rattle.engine_spec.specs.Opening.{opened_index}
+use Rattle.engine_spec.specs.declared.types.Configuration.{Configuration}
+use Rattle.engine_spec.specs.declared.types.Snapshot.{Snapshot}
+use Rattle.engine_spec.specs.declared.types.State.TheVariants as state
+use Rattle.engine_spec.specs.declared.types.LockPhase.TheVariants as phase
+use Rattle.engine_spec.specs.declared.types.Stage.TheVariants as stage
+use Rattle.engine_spec.specs.declared.types.WithholdReason.TheVariants as reason
+use Rattle.engine_spec.specs.declared.types.Estimate.TheVariants as estimate
+use Rattle.engine_spec.specs.declared.types.Maybe.TheVariants as maybe
+use Rattle.engine_spec.specs.declared.types.Milestone.TheVariants as milestone
+use Rattle.engine_spec.specs.declared.types.Hypothesis.TheVariants as hypothesis
+use Rattle.engine_spec.specs.declared.types.Refusal.TheVariants as refusal
+use Rattle.engine_sessions.specs.Session.{Session, Turn, room_for, heard, heard_without_work, eight, refusal, answered}
 ";
 
 // ---- what is handed in
@@ -131,8 +129,8 @@ fn handed(submission: &Submission, n: usize, frames: usize) -> String {
     };
     match submission.lent {
         Lent::Enough => format!("heard {frames} index window{n} {clock}"),
-        Lent::NoIndex => format!("heard {frames} noIndex window{n} {clock}"),
-        Lent::NoWork => format!("heardWithoutWork index window{n} {clock}"),
+        Lent::NoIndex => format!("heard {frames} no_index window{n} {clock}"),
+        Lent::NoWork => format!("heard_without_work index window{n} {clock}"),
     }
 }
 
@@ -168,7 +166,7 @@ fn lock(kept: &Kept) -> String {
     let (pending, accepted) = (hypothesis(&kept.pending), hypothesis(&kept.accepted));
     let last = wide(kept.last_global_search_ms);
     record(&format!(
-        "pending = {pending}; accepted = {accepted}; «last_global_search_ms» = record {{ 0 = {last} }}"
+        "pending = {pending}; accepted = {accepted}; last_global_search_ms = record {{ 0 = {last} }}"
     ))
 }
 
@@ -193,7 +191,7 @@ fn snapshot(s: &Snapshot) -> String {
         format!("phase = phase.{:?}", s.phase),
         format!("stage = stage.{:?}", s.stage),
         format!("estimate = {}", estimate(s.estimate.as_ref())),
-        format!("«withhold_reason» = reason.{reason}"),
+        format!("withhold_reason = reason.{reason}"),
         number("confidence", s.confidence),
         format!("diagnostics = {}", diagnostics(s)),
         milestone(
@@ -264,12 +262,8 @@ fn spectral(s: &Snapshot) -> String {
 }
 
 // ---- fields, records and lists
-/// A name with an underline is quoted.
 fn named(name: &str, word: String) -> String {
-    match name.contains('_') {
-        true => format!("«{name}» = {word}"),
-        false => format!("{name} = {word}"),
-    }
+    format!("{name} = {word}")
 }
 
 fn number(name: &str, x: f64) -> String {
