@@ -1,6 +1,6 @@
 // Kistovab, the caption lock, as the firmware of a seat unit calls it. C99, and usable from C++.
-// Links with libkistovab.a (`rt staticlib kistovab`): x86-64, the calling convention of Linux; of a
-// C library it needs memcpy and memset alone.
+// Links with libkistovab.a (`tools/staticlib kistovab`): x86-64, the calling convention of Linux;
+// of a C library it needs memcpy and memset alone.
 //
 // A reference is a film's sound as frames, one every hop: a time, and a value in each of some bands.
 // A window is what the seat heard last, as frames of the same kind. Window after window is
