@@ -1,5 +1,5 @@
-// Kistovab's C names: what a host written in C or Rust calls. All that is kept between calls lies
-// in slices that the host lends.
+// What a host written in C or Rust calls, by the names that crate kistovab_c gives to C. All that is
+// kept between calls lies in slices that the host lends.
 #![tactic(auto)]
 
 pub mod calls;
