@@ -110,7 +110,8 @@ fn check() -> Result<(), String> {
         }
     }
     let readme = fs::read_to_string("README.md").unwrap_or_default();
-    if let Some(line) = outdated(&readme, &films) {
+    let lines: Vec<_> = films.iter().flat_map(|film| film.lines.clone()).collect();
+    if let Some(line) = outdated(&readme, &lines) {
         return Err(format!(
             "README.md shows a line that ./demo does not print now; put its line there in place of: {line}"
         ));
@@ -124,20 +125,13 @@ fn check() -> Result<(), String> {
     Ok(())
 }
 
-/// A line of README.md that looks like a window's, and is printed with no film.
-fn outdated<'a>(readme: &'a str, films: &[Played]) -> Option<&'a str> {
+/// A line of README.md that looks like a window's, and is not printed.
+fn outdated<'a>(readme: &'a str, lines: &[String]) -> Option<&'a str> {
     let is_window = |line: &&str| {
         let mut words = line.split_whitespace();
         let time = words.next().is_some_and(|word| word.parse::<f64>().is_ok());
         time && words.next() == Some("s")
     };
-    let is_printed = |shown: &str| {
-        films
-            .iter()
-            .any(|film| film.lines.iter().any(|line| line == shown))
-    };
-    readme
-        .lines()
-        .filter(is_window)
-        .find(|line| !is_printed(line))
+    let mut shown = readme.lines().filter(is_window);
+    shown.find(|shown| !lines.iter().any(|line| line == shown))
 }

@@ -353,11 +353,16 @@ mod tests {
     fn answers_are_told_by_their_code() {
         assert_eq!(answered(0), Ok(AnswerKind::Computed));
         assert_eq!(answered(100), Ok(AnswerKind::Reread));
+        for refusal in Refusal::ALL {
+            assert_eq!(answered(refusal.number()), Err(refusal));
+        }
+    }
+
+    #[test]
+    fn answers_of_places_are_told_by_their_code() {
         assert_eq!(answered_of_store(0), Ok(()));
-        for number in 1..=16 {
-            assert_eq!(answered(number).map_err(Refusal::number), Err(number));
-            let of_store = answered_of_store(number);
-            assert_eq!(of_store.map_err(Refusal::number), Err(number));
+        for refusal in Refusal::OF_PLACES {
+            assert_eq!(answered_of_store(refusal.number()), Err(refusal));
         }
     }
 

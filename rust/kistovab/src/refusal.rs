@@ -55,15 +55,14 @@ pub enum Refusal {
 }
 
 impl Refusal {
-    /// All of them, in the order of their numbers.
-    pub const ALL: [Self; 17] = [
+    /// All but those of named places, in the order of their numbers.
+    pub const ALL: [Self; 14] = [
         Self::InvalidConfiguration,
         Self::HopOutOfRange,
         Self::ReferenceTooLarge,
         Self::ReferenceMiscounted,
         Self::ReferenceTimeTooFar,
         Self::IndexTooShort,
-        Self::StoreTooShort,
         Self::StateOutOfRange,
         Self::ClockNotFinite,
         Self::NoFrames,
@@ -71,12 +70,14 @@ impl Refusal {
         Self::WindowInvalid,
         Self::WindowTimeOutOfRange,
         Self::WorkTooShort,
-        Self::NameOutOfRange,
-        Self::NothingKept,
         Self::SeedZero,
     ];
 
-    /// Its number: from 1 to 16, and 6 of two.
+    /// Those of named places, which [`Engine::keep`](crate::Engine::keep) and
+    /// [`Engine::restore`](crate::Engine::restore) alone answer with.
+    pub const OF_PLACES: [Self; 3] = [Self::StoreTooShort, Self::NameOutOfRange, Self::NothingKept];
+
+    /// Its number: from 1 to 13, or 16; of named places 6, 14 or 15.
     pub fn number(self) -> u32 {
         match self {
             // The cases of an enum can't have one number.
@@ -85,7 +86,7 @@ impl Refusal {
         }
     }
 
-    /// Of 6 it is the index's.
+    /// One of [`ALL`](Self::ALL): of 6 it is the index's.
     pub(crate) fn from_number(number: u32) -> Option<Self> {
         Self::ALL
             .into_iter()
@@ -99,10 +100,10 @@ impl Refusal {
 
     /// The refusal that a call with a store, and so without an index, answered with.
     pub(crate) fn answered_of_store(code: u32) -> Self {
-        match Self::answered(code) {
-            Self::IndexTooShort => Self::StoreTooShort,
-            other => other,
-        }
+        Self::OF_PLACES
+            .into_iter()
+            .find(|refusal| refusal.number() == code)
+            .unwrap_or_else(|| Self::answered(code))
     }
 
     /// What is wrong, and what to do.
@@ -147,21 +148,28 @@ mod tests {
     use super::*;
 
     #[test]
-    fn numbers_run_from_1_to_16_with_two_of_6() {
+    fn numbers_run_from_1_to_13_and_16_follows() {
         let numbers = Refusal::ALL.map(Refusal::number);
-        let run: Vec<_> = (1..=6).chain(6..=16).collect();
-        assert_eq!(numbers.to_vec(), run);
-        let told = |number| Refusal::from_number(number).map(Refusal::number);
-        assert!(run.into_iter().all(|number| told(number) == Some(number)));
-        for other in [0, 17, 100, 101, 255] {
+        assert_eq!(numbers.to_vec(), (1..=13).chain([16]).collect::<Vec<_>>());
+        for refusal in Refusal::ALL {
+            assert_eq!(Refusal::from_number(refusal.number()), Some(refusal));
+        }
+        for other in [0, 14, 15, 17, 100, 101, 255] {
             assert_eq!(Refusal::from_number(other), None);
         }
     }
 
     #[test]
+    fn numbers_of_places_are_6_14_and_15() {
+        assert_eq!(Refusal::OF_PLACES.map(Refusal::number), [6, 14, 15]);
+    }
+
+    #[test]
     fn six_is_told_by_the_call() {
         assert_eq!(Refusal::answered(6), Refusal::IndexTooShort);
-        assert_eq!(Refusal::answered_of_store(6), Refusal::StoreTooShort);
+        for refusal in Refusal::OF_PLACES {
+            assert_eq!(Refusal::answered_of_store(refusal.number()), refusal);
+        }
         for refusal in Refusal::ALL.into_iter().filter(|one| one.number() != 6) {
             assert_eq!(Refusal::answered(refusal.number()), refusal);
             assert_eq!(Refusal::answered_of_store(refusal.number()), refusal);
@@ -174,6 +182,16 @@ mod tests {
             let text = refusal.to_string();
             assert!(text.starts_with(&format!("refusal {}: ", refusal.number())));
             let does = [": give ", ": lend ", ": use ", ": count "];
+            assert!(does.iter().any(|word| text.contains(word)), "{text}");
+        }
+    }
+
+    #[test]
+    fn every_text_of_places_says_what_to_do() {
+        for refusal in Refusal::OF_PLACES {
+            let text = refusal.to_string();
+            assert!(text.starts_with(&format!("refusal {}: ", refusal.number())));
+            let does = [": give ", ": lend ", ": use "];
             assert!(does.iter().any(|word| text.contains(word)), "{text}");
         }
     }
