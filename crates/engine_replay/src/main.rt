@@ -12,9 +12,9 @@ use engine_lines::answers::{Agreement, Answers, agreement_with, agrees};
 use engine_lines::line::LINE;
 use engine_lines::{opening, submission};
 use engine_words::states::STATE_WORDS;
-use hexadecimal::word_at;
+use hexadecimal::{read_list, word_at};
 use std::io;
-use std::io::{Read, Stdout};
+use std::io::Stdout;
 
 // The index of the longest reference that is opened.
 const FINE: usize = opening::VALUES;
@@ -40,10 +40,9 @@ const LIST: usize = 65536;
 // Fails where the list cannot be read, or what it came to cannot be written.
 fn main(rt: HostRuntime) -> io::Result<()> {
     let out = rt.stdout();
-    let mut list = Vec::new(rt.alloc());
-    rt.stdin().take(LIST as u64).read_to_end(&mut list)?;
-    list.truncate(LIST);
-    let tally = replay(out, &list);
+    let mut list = [0u8; LIST];
+    let size = read_list(&mut rt.stdin(), &mut list)?;
+    let tally = replay(out, &list[..size]);
     print(out, tally.sessions, " sessions, ")?;
     print(out, tally.submissions, " submissions replayed, ")?;
     print(out, tally.differ, " differ\n")

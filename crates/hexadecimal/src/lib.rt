@@ -1,8 +1,11 @@
-// Hexadecimal digits, as the lists that the replays read write their numbers.
+// Lists that the replays read, and hexadecimal digits, as they write their numbers.
 #![tactic(auto)]
 
-ghost use Rattle.std.specs.Prelude.{◌+◌, ◌*◌, ◌≤◌, length, ◌≡◌};
+ghost use Rattle.std.specs.Prelude.{◌+◌, ◌*◌, ◌≤◌, length, ◌≡◌, IfOk};
 ghost use Rattle.hexadecimal.specs.Hexadecimal.{digit_of, digits, spaced, word_at, word_from};
+
+use std::io;
+use std::io::Read;
 
 // The digits of a word, and the bytes of one with the blank or line end after it.
 const DIGITS: usize = 16;
@@ -55,4 +58,19 @@ fn digit(byte: u8) -> u64
         b'a'..=b'f' => (byte - b'a' + 10) as u64,
         _ => 16,
     }
+}
+
+// Fills a list from its front, as far as the input goes or the list has room, and says how far.
+pub fn read_list<R: Read>(input: &mut R, list: &mut [u8]) -> io::Result<usize>
+    ensures { IfOk result (λ size. size ≤ length list.new) }
+{
+    let mut size = 0usize;
+    while size < list.len() {
+        let got = input.read(&mut list[size..])?;
+        if got == 0 {
+            return Ok(size);
+        }
+        size += got;
+    }
+    Ok(size)
 }

@@ -12,8 +12,9 @@ ghost use Rattle.std.specs.Prelude.{drop, length, ◌≤◌, cond, ◌≡◌};
 ghost use Rattle.numbers_replay.specs.Cases.{differing, first_agrees, lines};
 ghost use Rattle.hexadecimal.specs.Hexadecimal.{list_most};
 
+use hexadecimal::read_list;
 use std::io;
-use std::io::{Read, Stdout};
+use std::io::Stdout;
 
 // The bytes of a line.
 const LINE: usize = 41;
@@ -25,11 +26,10 @@ const LIST: usize = 65536;
 // Fails where the list cannot be read, or what it came to cannot be written.
 fn main(rt: HostRuntime) -> io::Result<()> {
     let out = rt.stdout();
-    let mut list = Vec::new(rt.alloc());
-    rt.stdin().take(LIST as u64).read_to_end(&mut list)?;
-    list.truncate(LIST);
-    let differ = replay(out, &list);
-    print(out, (list.len() + LINE - 1) / LINE, " numbers replayed, ")?;
+    let mut list = [0u8; LIST];
+    let size = read_list(&mut rt.stdin(), &mut list)?;
+    let differ = replay(out, &list[..size]);
+    print(out, (size + LINE - 1) / LINE, " numbers replayed, ")?;
     print(out, differ, " differ\n")
 }
 
