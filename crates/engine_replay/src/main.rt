@@ -12,7 +12,7 @@ use engine_lines::answers::{Agreement, Answers, agreement_with, agrees};
 use engine_lines::line::LINE;
 use engine_lines::{opening, submission};
 use engine_words::states::STATE_WORDS;
-use hexadecimal::{read_list, word_at};
+use hexadecimal::{LIST, read_list, word_at};
 use std::io;
 use std::io::Stdout;
 
@@ -33,11 +33,9 @@ struct Tally {
     differ: usize,
 }
 
-// The bytes of a list, at most: 257 lines and a byte, so a list that is too long ends in a line that
-// is cut off, which counts as one that differs.
-const LIST: usize = 65536;
-
-// Fails where the list cannot be read, or what it came to cannot be written.
+// The buffer holds 257 lines and a byte, so a list that is too long ends in a line that is cut off,
+// which counts as one that differs. Fails where the list cannot be read, or what it came to cannot
+// be written.
 fn main(rt: HostRuntime) -> io::Result<()> {
     let out = rt.stdout();
     let mut list = [0u8; LIST];

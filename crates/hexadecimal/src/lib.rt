@@ -12,6 +12,9 @@ const DIGITS: usize = 16;
 
 pub const SPACED: usize = DIGITS + 1;
 
+// The bytes of a list, at most. One that is longer ends in a line that is cut off.
+pub const LIST: usize = 65536;
+
 #[derive(Drop)]
 pub enum Word {
     Is(u64),

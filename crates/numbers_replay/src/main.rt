@@ -12,18 +12,16 @@ ghost use Rattle.std.specs.Prelude.{drop, length, ◌≤◌, cond, ◌≡◌};
 ghost use Rattle.numbers_replay.specs.Cases.{differing, first_agrees, lines};
 ghost use Rattle.hexadecimal.specs.Hexadecimal.{list_most};
 
-use hexadecimal::read_list;
+use hexadecimal::{LIST, read_list};
 use std::io;
 use std::io::Stdout;
 
 // The bytes of a line.
 const LINE: usize = 41;
 
-// The bytes of a list, at most: 1,598 lines and a part of one more, so a list that is too long ends
-// in a line that is cut off, which counts as one that differs.
-const LIST: usize = 65536;
-
-// Fails where the list cannot be read, or what it came to cannot be written.
+// The buffer holds 1,598 lines and a part of one more, so a list that is too long ends in a line that is cut off,
+// which counts as one that differs. Fails where the list cannot be read, or what it came to cannot
+// be written.
 fn main(rt: HostRuntime) -> io::Result<()> {
     let out = rt.stdout();
     let mut list = [0u8; LIST];
