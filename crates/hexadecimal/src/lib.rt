@@ -1,7 +1,8 @@
 // Lists that the replays read, and hexadecimal digits, as they write their numbers.
 #![tactic(auto)]
 
-ghost use Rattle.std.specs.Prelude.{◌+◌, ◌*◌, ◌≤◌, length, ◌≡◌, IfOk};
+ghost use Rattle.std.specs.Prelude.{◌+◌, ◌*◌, ◌≤◌, length, ◌≡◌, ◌<◌, IfOk, take};
+ghost use Rattle.std.specs.Io.KnownBytes.{Consumes, IsAtEnd};
 ghost use Rattle.hexadecimal.specs.Hexadecimal.{digit_of, digits, spaced, word_at, word_from};
 
 use std::io;
@@ -63,9 +64,12 @@ fn digit(byte: u8) -> u64
     }
 }
 
-// Fills a list from its front, as far as the input goes or the list has room, and says how far.
+// Fills a list from its front, as far as the input goes or the list has room, and says how far: that
+// is what the input gave, and a list that has room left has the input to its end.
 pub fn read_list<R: Read>(input: &mut R, list: &mut [u8]) -> io::Result<usize>
-    ensures { IfOk result (λ size. size ≤ length list.new) }
+    ensures bound { IfOk result (λ size. size ≤ length list.new) }
+    ensures bytes { IfOk result (λ size. Consumes (R.remaining input.old) (R.remaining input.new) (take size list.new)) }
+    ensures end { IfOk result (λ size. size < length list.new → IsAtEnd (R.remaining input.new)) }
 {
     let mut size = 0usize;
     while size < list.len() {
