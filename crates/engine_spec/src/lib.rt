@@ -3,5 +3,6 @@
 // above.
 #![tactic(auto)]
 
+pub mod lent;
 pub mod thresholds;
 pub mod types;

@@ -3,5 +3,6 @@
 #![tactic(auto)]
 
 pub mod constants;
+pub mod lent;
 pub mod limits;
 pub mod types;
