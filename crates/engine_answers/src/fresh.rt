@@ -8,8 +8,8 @@ ghost use Rattle.matcher_spec.specs.Limits.{frames_most, bands_most};
 use engine_decision::windows::no_lock;
 use engine_snapshot::candidates::blank_candidate;
 use engine_spec::types::{
-    Configuration, Diagnostics, Endpoint, Engine, Estimate, Last, LockPhase, Maybe, Milestone,
-    Milestones, ReferenceMs, Settings, Snapshot, SpectralDiagnostics, Stage, State, WithholdReason,
+    Configuration, Diagnostics, Engine, Last, LockPhase, Milestones, ReferenceMs, Settings, Snapshot,
+    SpectralDiagnostics, Stage, State,
 };
 use matcher_spec::limits::CANDIDATES_MOST;
 
@@ -17,47 +17,31 @@ use matcher_spec::limits::CANDIDATES_MOST;
 pub fn fresh_engine(configuration: Configuration, settings: Settings) -> Engine
     ensures { result ≡ fresh_engine configuration settings }
 {
-    let lock = no_lock();
-    let milestones = no_milestones();
-    let snapshot = blank_snapshot();
-    let last = Last {
-        endpoint_ms: Endpoint::Absent,
-        has_snapshot: false,
-        snapshot,
-    };
     Engine {
         configuration,
         settings,
-        lock,
-        milestones,
-        last,
+        lock: no_lock(),
+        milestones: no_milestones(),
+        last: Last {
+            endpoint_ms: None,
+            has_snapshot: false,
+            snapshot: blank_snapshot(),
+        },
     }
 }
 
-// What a refused opening gives: an engine with hop 0, which every submission refuses with 7.
-pub fn no_engine() -> Engine
-    ensures { result ≡ no_engine }
-{
-    let configuration = Configuration {
-        minimum_readiness_duration_ms: 0.0,
-        tracking_query_duration_ms: 0.0,
-        minimum_active_frame_energy_dbfs: 0.0,
-        minimum_average_energy_dbfs: 0.0,
-        minimum_active_frame_fraction: 0.0,
-    };
-    fresh_engine(configuration, without_index(0.0))
-}
-
 // The reference's counts and start.
-pub fn with_index(hop: f64, bands: usize, times: &[f64]) -> Settings
-    requires { (0 < length times.now) × ((length times.now ≤ frames_most) × (bands ≤ bands_most)) }
-    ensures { result ≡ with_index hop (features bands times.now []) }
+pub fn with_index(hop: f64, reference: &Features<'_>) -> Settings
+    requires some { 0 < length reference.now.times }
+    requires few { length reference.now.times ≤ frames_most }
+    requires few_bands { reference.now.bands ≤ bands_most }
+    ensures { result ≡ with_index hop reference.now }
 {
     Settings {
         hop_ms: hop,
-        reference_frames: times.len() as u16,
-        reference_bands: bands as u16,
-        reference_start_ms: ReferenceMs(times[0]),
+        reference_frames: reference.times.len() as u16,
+        reference_bands: reference.bands as u16,
+        reference_start_ms: ReferenceMs(reference.times[0]),
     }
 }
 
@@ -82,13 +66,13 @@ pub fn blank_snapshot() -> Snapshot
         state: State::Ready,
         phase: LockPhase::None,
         stage: Stage::Readiness,
-        estimate: Estimate::Absent,
-        withhold_reason: WithholdReason::None,
+        estimate: None,
+        withhold_reason: None,
         confidence: 0.0,
         diagnostics,
-        first_provisional_lock_elapsed_ms: Milestone::Absent,
-        confirmed_lock_elapsed_ms: Milestone::Absent,
-        final_lock_elapsed_ms: Milestone::Absent,
+        first_provisional_lock_elapsed_ms: None,
+        confirmed_lock_elapsed_ms: None,
+        final_lock_elapsed_ms: None,
     }
 }
 
@@ -103,8 +87,8 @@ fn blank_diagnostics() -> Diagnostics
         active_frame_fraction: 0.0,
         coarse_ambiguous: false,
         dense_margin: 0.0,
-        offset_stability_ms: Maybe::Absent,
-        track_innovation_ms: Maybe::Absent,
+        offset_stability_ms: None,
+        track_innovation_ms: None,
         track_count: 0,
         offset_tracker_confirmed: false,
         offset_tracker_stable: false,
@@ -121,7 +105,7 @@ fn blank_spectral() -> SpectralDiagnostics
     SpectralDiagnostics {
         global_search: false,
         correlation: 0.0,
-        competing_peak_margin: Maybe::Absent,
+        competing_peak_margin: None,
         first_half_correlation: 0.0,
         second_half_correlation: 0.0,
         recent_correlation: 0.0,
@@ -135,8 +119,8 @@ fn no_milestones() -> Milestones
     ensures { result ≡ no_milestones }
 {
     Milestones {
-        first_provisional_ms: Milestone::Absent,
-        confirmed_ms: Milestone::Absent,
-        final_ms: Milestone::Absent,
+        first_provisional_ms: None,
+        confirmed_ms: None,
+        final_ms: None,
     }
 }

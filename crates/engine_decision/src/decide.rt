@@ -1,19 +1,19 @@
 // The decision on a window. It sees which milestones are there, and no clock.
-ghost use Rattle.std.specs.Prelude.{◌≤◌, length, ◌≡◌};
+ghost use Rattle.std.specs.Prelude.{length, ◌≡◌};
 ghost use Rattle.engine_spec.specs.Windows.{matcher_in};
 ghost use Rattle.engine_spec.specs.Publishing.{decide};
-ghost use Rattle.matcher_spec.specs.Index.{lent};
-ghost use Rattle.engine_spec.specs.Lent.{window};
 ghost use Rattle.engine_spec.specs.Room.{Room};
 ghost use Rattle.engine_decision.specs.Decided.{decision_in};
-ghost use Rattle.matcher_spec.specs.Limits.{candidates_most};
 
 use crate::kinds::Decision;
 use crate::verdict::{ready, unready};
+use crate::windows::endpoint_of;
 use engine_lock::track::evidence;
-use engine_readiness::{is_none, readiness};
+use engine_readiness::readiness;
 use engine_search::search::searched;
-use engine_spec::types::{Configuration, Lock, Reached, RecordedMs, Settings};
+use engine_spec::lent::Window;
+use engine_spec::types::{Configuration, Lock, Reached, Settings};
+use matcher_spec::lent::Index;
 
 // Readiness first; a window that is ready is searched. A whole search that is due is made where it is
 // granted.
@@ -21,51 +21,21 @@ pub fn decide(
     granted: bool,
     configuration: Configuration,
     settings: Settings,
-    fine: &[f32],
-    coarse: &[f32],
-    fine_energy: &[f64],
-    coarse_energy: &[f64],
-    bands: usize,
-    times: &[f64],
-    energies: &[f64],
-    values: &[f32],
+    index: &Index<'_>,
+    window: &Window<'_>,
     reached: Reached,
     lock: Lock,
     work32: &mut [f32],
     work64: &mut [f64],
 ) -> Decision
-    requires { Room settings (lent fine.now coarse.now fine_energy.now coarse_energy.now) (window bands times.now energies.now values.now) (length work32.old) (length work64.old) }
-    ensures result_value { decision_in result ≡ decide granted configuration settings (matcher_in settings (lent fine.now coarse.now fine_energy.now coarse_energy.now)) (window bands times.now energies.now values.now) reached lock }
-    ensures count_le_candidates_most { result.found.count ≤ candidates_most }
+    requires { Room settings index.now window.now (length work32.old) (length work64.old) }
+    ensures { decision_in result ≡ decide granted configuration settings (matcher_in settings index.now) window.now reached lock }
 {
-    let endpoint = RecordedMs(times[times.len() - 1]);
-    let reason = readiness(
-        configuration,
-        settings,
-        reached.confirmed,
-        bands,
-        times,
-        energies,
-        values,
-    );
-    if !is_none(reason) {
+    if let Some(reason) = readiness(configuration, settings, reached.confirmed, window) {
         return unready(settings, reached, lock, reason);
     }
     let s = searched(
-        granted,
-        settings,
-        fine,
-        coarse,
-        fine_energy,
-        coarse_energy,
-        bands,
-        times,
-        energies,
-        values,
-        reached,
-        lock,
-        work32,
-        work64,
+        granted, settings, index, window, reached, lock, work32, work64,
     );
-    ready(evidence(settings.hop_ms, endpoint), s)
+    ready(evidence(settings.hop_ms, endpoint_of(window)), s)
 }

@@ -2,7 +2,7 @@
 use engine_spec::types::{Lock, Reached, Verdict};
 use matcher_spec::types::MatchResult;
 
-#[derive(Clone, Copy)]
+#[derive(Drop)]
 pub struct Decision {
     pub lock: Lock,
     pub reached: Reached,

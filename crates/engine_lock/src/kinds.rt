@@ -1,21 +1,21 @@
 // What the lock rules hand on.
-use engine_spec::types::{Hypothesis, Lock, Maybe, Reached};
+use engine_spec::types::{Hypothesis, Lock, Reached};
 use matcher_spec::types::MatchResult;
 
-#[derive(Clone, Copy)]
+#[derive(Drop)]
 pub struct Tracked {
-    pub accepted: Hypothesis,
+    pub accepted: Option<Hypothesis>,
     pub supported: bool,
-    pub innovation: Maybe,
+    pub innovation: Option<f64>,
     pub found: MatchResult,
 }
 
-#[derive(Clone, Copy)]
+#[derive(Drop)]
 pub struct Searched {
     pub lock: Lock,
     pub reached: Reached,
     pub global: bool,
     pub found: MatchResult,
     pub supported: bool,
-    pub innovation: Maybe,
+    pub innovation: Option<f64>,
 }

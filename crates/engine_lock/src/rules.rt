@@ -1,12 +1,10 @@
 // The lock rules: pending, the end of a chain, and which milestones are there.
-ghost use Rattle.std.specs.Prelude.{◌<◌, ◌≤◌, ◌∷◌, ◌≡◌, drop};
-ghost use Rattle.matcher_spec.specs.Candidates.{listed};
+ghost use Rattle.std.specs.Prelude.{◌∷◌, ◌≡◌, drop};
 ghost use Rattle.engine_spec.specs.Locking.{confirms, first_evidence, held_or_dropped, holds, is_due, kept_or_replaced, locally_searched, not_passed, passed, passing, whole_searched};
 ghost use Rattle.engine_spec.specs.Milestones.{after_chain, after_passing};
 ghost use Rattle.engine_spec.specs.Windows.{current};
 ghost use Rattle.numbers_spec.specs.Arithmetic.{least};
 ghost use Rattle.engine_lock.specs.Views.{searched_in, tracked_in};
-ghost use Rattle.matcher_spec.specs.Limits.{candidates_most};
 
 use crate::kinds::{Searched, Tracked};
 use crate::track::{best_of, is_same_place};
@@ -38,14 +36,12 @@ fn least(x: f64, y: f64) -> f64
 
 // Whether a whole search passes, by its best candidate and its margin. Both halves have to reach
 // 0.10, tested by the lesser of them, as the Rust does.
-pub fn is_passing(found: MatchResult) -> bool
-    requires { found.count ≤ candidates_most }
-    ensures { result ≡ passing (listed found) }
+pub fn is_passing(found: &MatchResult) -> bool
+    ensures { result ≡ passing found.now.items }
 {
-    if found.count == 0 {
+    let Some(best) = best_of(found) else {
         return false;
-    }
-    let best = best_of(found);
+    };
     (best.score >= PASSING_CORRELATION)
         & ((margin(found) >= PASSING_MARGIN)
             & (least(best.first_half_score, best.second_half_score) >= PASSING_HALF))
@@ -60,60 +56,40 @@ fn is_current(now: RecordedMs, last: RecordedMs) -> bool
 
 // A passing search carries pending on, with its first evidence, where that is current and at the
 // same place. Otherwise it starts anew.
-fn first_evidence(pending: Hypothesis, offset: f64, now: RecordedMs) -> RecordedMs
+fn first_evidence(pending: Option<Hypothesis>, offset: f64, now: RecordedMs) -> RecordedMs
     ensures { result ≡ first_evidence pending offset now }
 {
-    match pending {
-        Hypothesis::Absent => now,
-        Hypothesis::Held {
-            offset_ms,
-            first_evidence_ms,
-            last_evidence_ms,
-            correlation: _,
-        } => {
-            if is_same_place(offset_ms, offset) & is_current(now, last_evidence_ms) {
-                first_evidence_ms
-            } else {
-                now
-            }
-        }
+    let Some(held) = pending else {
+        return now;
+    };
+    if is_same_place(held.offset_ms, offset) & is_current(now, held.last_evidence_ms) {
+        held.first_evidence_ms
+    } else {
+        now
     }
 }
 
 // A search that does not pass holds pending where its best is at the same place, unambiguous, and
 // pending current.
-fn holds(offset: f64, last: RecordedMs, found: MatchResult, now: RecordedMs) -> bool
-    requires { found.count ≤ candidates_most }
-    ensures { result ≡ holds offset last (listed found) now }
+fn holds(offset: f64, last: RecordedMs, found: &MatchResult, now: RecordedMs) -> bool
+    ensures { result ≡ holds offset last found.now.items now }
 {
-    if found.count == 0 {
+    let Some(best) = best_of(found) else {
         return false;
-    }
-    let best = best_of(found);
+    };
     is_same_place(best.offset_ms, offset)
         & ((margin(found) >= PASSING_MARGIN) & is_current(now, last))
 }
 
 // Pending after a search that does not pass.
-fn held_or_dropped(pending: Hypothesis, found: MatchResult, now: RecordedMs) -> Hypothesis
-    requires { found.count ≤ candidates_most }
-    ensures { result ≡ held_or_dropped pending (listed found) now }
+fn held_or_dropped(
+    pending: Option<Hypothesis>,
+    found: &MatchResult,
+    now: RecordedMs,
+) -> Option<Hypothesis>
+    ensures { result ≡ held_or_dropped pending found.now.items now }
 {
-    match pending {
-        Hypothesis::Absent => Hypothesis::Absent,
-        Hypothesis::Held {
-            offset_ms,
-            first_evidence_ms: _,
-            last_evidence_ms,
-            correlation: _,
-        } => {
-            if holds(offset_ms, last_evidence_ms, found, now) {
-                pending
-            } else {
-                Hypothesis::Absent
-            }
-        }
-    }
+    pending.filter(|held| holds(held.offset_ms, held.last_evidence_ms, found, now))
 }
 
 // The end of a chain: 1,000 less a hop of fresh evidence, and recent support.
@@ -126,33 +102,26 @@ fn confirms(hop: f64, first: RecordedMs, now: RecordedMs, best: Candidate) -> bo
 // The track at the end of a chain: kept where the window supports it at the chain's place, else
 // begun there.
 fn kept_or_replaced(
-    accepted: Hypothesis,
+    accepted: Option<Hypothesis>,
     supported: bool,
     best: Candidate,
     now: RecordedMs,
-) -> Hypothesis
+) -> Option<Hypothesis>
     ensures { result ≡ kept_or_replaced accepted supported best now }
 {
-    let begun = Hypothesis::Held {
+    let begun = Some(Hypothesis {
         offset_ms: best.offset_ms,
         first_evidence_ms: now,
         last_evidence_ms: now,
         correlation: best.score,
+    });
+    let Some(track) = accepted else {
+        return begun;
     };
-    match accepted {
-        Hypothesis::Absent => begun,
-        Hypothesis::Held {
-            offset_ms,
-            first_evidence_ms: _,
-            last_evidence_ms: _,
-            correlation: _,
-        } => {
-            if (abs(offset_ms - best.offset_ms) > SAME_PLACE_MS) | !supported {
-                begun
-            } else {
-                accepted
-            }
-        }
+    if (abs(track.offset_ms - best.offset_ms) > SAME_PLACE_MS) | !supported {
+        begun
+    } else {
+        accepted
     }
 }
 
@@ -162,8 +131,7 @@ fn after_passing(k: Reached) -> Reached
 {
     Reached {
         provisional: true,
-        confirmed: k.confirmed,
-        final_lock: k.final_lock,
+        ..k
     }
 }
 
@@ -191,48 +159,33 @@ fn passed(
     best: Candidate,
     found: MatchResult,
 ) -> Searched
-    requires { listed found ≡ best ∷ drop 1 (listed found) }
-    ensures result_value { searched_in result ≡ passed hop now endpoint reached first (tracked_in t) best (drop 1 (listed found)) }
+    requires { found.items ≡ best ∷ drop 1 found.items }
+    ensures result_value { searched_in result ≡ passed hop now endpoint reached first (tracked_in t) best (drop 1 found.items) }
     ensures found_value { result.found ≡ found }
 {
-    let innovation = t.innovation;
-    let accepted = t.accepted;
-    let pending = Hypothesis::Held {
+    let ends = confirms(hop, first, now, best);
+    let pending = Some(Hypothesis {
         offset_ms: best.offset_ms,
         first_evidence_ms: first,
         last_evidence_ms: now,
         correlation: best.score,
+    });
+    let accepted = if ends {
+        kept_or_replaced(t.accepted, t.supported, best, now)
+    } else {
+        t.accepted
     };
-    if confirms(hop, first, now, best) {
-        let track = kept_or_replaced(accepted, t.supported, best, now);
-        let lock = Lock {
-            pending,
-            accepted: track,
-            last_global_search_ms: endpoint,
-        };
-        let after = after_chain(reached);
-        return Searched {
-            lock,
-            reached: after,
-            global: true,
-            found,
-            supported: true,
-            innovation,
-        };
-    }
-    let lock = Lock {
-        pending,
-        accepted,
-        last_global_search_ms: endpoint,
-    };
-    let after = after_passing(reached);
     Searched {
-        lock,
-        reached: after,
+        lock: Lock {
+            pending,
+            accepted,
+            last_global_search_ms: endpoint,
+        },
+        reached: if ends { after_chain(reached) } else { after_passing(reached) },
         global: true,
         found,
-        supported: t.supported,
-        innovation,
+        supported: ends | t.supported,
+        innovation: t.innovation,
     }
 }
 
@@ -241,29 +194,24 @@ fn not_passed(
     now: RecordedMs,
     endpoint: RecordedMs,
     reached: Reached,
-    pending: Hypothesis,
+    pending: Option<Hypothesis>,
     t: Tracked,
     found: MatchResult,
 ) -> Searched
-    requires { found.count ≤ candidates_most }
-    ensures result_value { searched_in result ≡ not_passed now endpoint reached pending (tracked_in t) (listed found) }
+    ensures result_value { searched_in result ≡ not_passed now endpoint reached pending (tracked_in t) found.items }
     ensures found_value { result.found ≡ found }
 {
-    let held = held_or_dropped(pending, found, now);
-    let accepted = t.accepted;
-    let innovation = t.innovation;
-    let lock = Lock {
-        pending: held,
-        accepted,
-        last_global_search_ms: endpoint,
-    };
     Searched {
-        lock,
+        lock: Lock {
+            pending: held_or_dropped(pending, &found, now),
+            accepted: t.accepted,
+            last_global_search_ms: endpoint,
+        },
         reached,
         global: true,
         found,
         supported: t.supported,
-        innovation,
+        innovation: t.innovation,
     }
 }
 
@@ -273,18 +221,19 @@ pub fn whole_searched(
     now: RecordedMs,
     endpoint: RecordedMs,
     reached: Reached,
-    pending: Hypothesis,
+    pending: Option<Hypothesis>,
     t: Tracked,
     found: MatchResult,
 ) -> Searched
-    requires { found.count ≤ candidates_most }
-    ensures result_value { searched_in result ≡ whole_searched hop now endpoint reached pending (tracked_in t) (listed found) }
+    ensures result_value { searched_in result ≡ whole_searched hop now endpoint reached pending (tracked_in t) found.items }
     ensures found_value { result.found ≡ found }
 {
-    if !is_passing(found) {
+    if !is_passing(&found) {
         return not_passed(now, endpoint, reached, pending, t, found);
     }
-    let best = best_of(found);
+    let Some(best) = best_of(&found) else {
+        return not_passed(now, endpoint, reached, pending, t, found);
+    };
     let first = first_evidence(pending, best.offset_ms, now);
     passed(hop, now, endpoint, reached, first, t, best, found)
 }
@@ -294,22 +243,15 @@ pub fn locally_searched(reached: Reached, lock: Lock, t: Tracked) -> Searched
     ensures result_value { searched_in result ≡ locally_searched reached lock (tracked_in t) }
     ensures found_value { result.found ≡ t.found }
 {
-    let pending = lock.pending;
-    let accepted = t.accepted;
-    let innovation = t.innovation;
-    let found = t.found;
-    let last_global_search_ms = lock.last_global_search_ms;
-    let kept = Lock {
-        pending,
-        accepted,
-        last_global_search_ms,
-    };
     Searched {
-        lock: kept,
+        lock: Lock {
+            accepted: t.accepted,
+            ..lock
+        },
         reached,
         global: false,
-        found,
+        found: t.found,
         supported: t.supported,
-        innovation,
+        innovation: t.innovation,
     }
 }

@@ -1,16 +1,14 @@
 // The track and what a local search does to it.
-ghost use Rattle.std.specs.Prelude.{◌<◌, ◌≤◌, ◌∷◌, ◌≡◌, drop};
-ghost use Rattle.matcher_spec.specs.Candidates.{listed};
+ghost use Rattle.std.specs.Prelude.{◌∷◌, ◌≡◌, [], drop, IfSome, IfNone};
 ghost use Rattle.engine_spec.specs.Windows.{evidence_at, same_place};
 ghost use Rattle.engine_spec.specs.Tracking.{followed, gain, may_coast, moved_offset, supports, unsupported};
 ghost use Rattle.engine_lock.specs.Views.{tracked_in};
-ghost use Rattle.matcher_spec.specs.Limits.{candidates_most};
 
 use crate::kinds::Tracked;
 use engine_spec::thresholds::{
     COAST_MOST_MS, GAIN_MS, SAME_PLACE_MS, SUPPORT_CORRELATION, SUPPORT_RECENT,
 };
-use engine_spec::types::{Hypothesis, Maybe, RecordedMs};
+use engine_spec::types::{Hypothesis, RecordedMs};
 use matcher_bands::centring::context_frames;
 use matcher_spec::types::{Candidate, MatchResult};
 use numbers::exponential::exp;
@@ -60,67 +58,49 @@ fn moved_offset(offset: f64, best: Candidate, dt: f64) -> f64
     offset + gain(dt) * (best.offset_ms - offset)
 }
 
-// The best candidate of a result that has one.
-pub fn best_of(found: MatchResult) -> Candidate
-    requires fact_1 { 0 < found.count }
-    requires fact_2 { found.count ≤ candidates_most }
-    ensures { listed found ≡ result ∷ drop 1 (listed found) }
+// The best candidate of a result, where it has one.
+pub fn best_of(found: &MatchResult) -> Option<Candidate>
+    ensures some { IfSome result (λ best. found.now.items ≡ best ∷ drop 1 found.now.items) }
+    ensures none { IfNone result (found.now.items ≡ []) }
 {
-    let candidates = found.candidates;
-    candidates[0]
+    found.as_slice().first().copied()
 }
 
 // No support: the track as it was, or none.
-pub fn unsupported(track: Hypothesis, found: MatchResult) -> Tracked
-    ensures result_value { tracked_in result ≡ unsupported track (listed found) }
+pub fn unsupported(track: Option<Hypothesis>, found: MatchResult) -> Tracked
+    ensures result_value { tracked_in result ≡ unsupported track found.items }
     ensures found_value { result.found ≡ found }
 {
     Tracked {
         accepted: track,
         supported: false,
-        innovation: Maybe::Absent,
+        innovation: None,
         found,
     }
 }
 
 // The track after the best of what a local search found.
-pub fn followed(
-    offset: f64,
-    first: RecordedMs,
-    last: RecordedMs,
-    correlation: f64,
-    now: RecordedMs,
-    found: MatchResult,
-) -> Tracked
-    requires { found.count ≤ candidates_most }
-    ensures result_value { tracked_in result ≡ followed offset first last correlation now (listed found) }
+pub fn followed(track: Hypothesis, now: RecordedMs, found: MatchResult) -> Tracked
+    ensures result_value { tracked_in result ≡ followed track now found.items }
     ensures found_value { result.found ≡ found }
 {
-    let track = Hypothesis::Held {
-        offset_ms: offset,
-        first_evidence_ms: first,
-        last_evidence_ms: last,
-        correlation,
+    let Some(best) = best_of(&found) else {
+        return unsupported(Some(track), found);
     };
-    if found.count == 0 {
-        return unsupported(track, found);
+    if !supports(track.offset_ms, best) {
+        return unsupported(Some(track), found);
     }
-    let best = best_of(found);
-    if !supports(offset, best) {
-        return unsupported(track, found);
-    }
-    let dt = at_least(0.0, now.0 - last.0);
-    let to = moved_offset(offset, best, dt);
-    let moved = Hypothesis::Held {
-        offset_ms: to,
-        first_evidence_ms: first,
+    let dt = at_least(0.0, now.0 - track.last_evidence_ms.0);
+    let moved = Hypothesis {
+        offset_ms: moved_offset(track.offset_ms, best, dt),
         last_evidence_ms: now,
         correlation: best.score,
+        ..track
     };
     Tracked {
-        accepted: moved,
+        accepted: Some(moved),
         supported: true,
-        innovation: Maybe::Is(best.offset_ms - offset),
+        innovation: Some(best.offset_ms - track.offset_ms),
         found,
     }
 }

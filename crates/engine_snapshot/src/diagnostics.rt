@@ -1,19 +1,18 @@
 // The diagnostics of a snapshot.
 ghost use Rattle.std.specs.Prelude.{◌<◌, ◌≤◌, length, cond, ◌≡◌};
 ghost use Rattle.numbers_spec.specs.Arithmetic.{zero⁺, magnitude};
-ghost use Rattle.matcher_spec.specs.Candidates.{listed, margin_of};
+ghost use Rattle.matcher_spec.specs.Candidates.{margin_of};
 ghost use Rattle.engine_spec.specs.Publishing.{diagnostics_of, magnitude_of, count_of_track};
-ghost use Rattle.engine_spec.specs.Lent.{window};
 ghost use Rattle.engine_spec.specs.Cases.{is_publishing};
 ghost use Rattle.engine_decision.specs.Decided.{decision_in};
-ghost use Rattle.matcher_spec.specs.Limits.{candidates_most};
 
-use crate::candidates::{candidate_array, comparable_frames, coverage, found_count};
+use crate::candidates::{candidate_array, comparable_frames, coverage, duration_of};
 use crate::spectral::spectral_of;
 use engine_decision::kinds::Decision;
 use engine_decision::verdict::is_ambiguous;
 use engine_readiness::active_fraction;
-use engine_spec::types::{Configuration, Diagnostics, Hypothesis, Maybe, State};
+use engine_spec::lent::Window;
+use engine_spec::types::{Configuration, Diagnostics, Hypothesis, State};
 use matcher_picks::candidates::margin;
 use matcher_spec::types::MatchResult;
 
@@ -21,60 +20,35 @@ use matcher_spec::types::MatchResult;
 pub fn diagnostics_of(
     configuration: Configuration,
     hop: f64,
-    bands: usize,
-    times: &[f64],
-    energies: &[f64],
-    values: &[f32],
-    d: Decision,
+    window: &Window<'_>,
+    d: &Decision,
 ) -> Diagnostics
-    requires fact_1 { d.found.count ≤ candidates_most }
-    requires fact_2 { 0 < length times.now }
-    requires fact_3 { length times.now ≤ length energies.now }
-    ensures { result ≡ diagnostics_of configuration hop (window bands times.now energies.now values.now) (decision_in d) }
+    requires some_frames { 0 < length window.now.times }
+    requires energies { length window.now.times ≤ length window.now.energies }
+    ensures { result ≡ diagnostics_of configuration hop window.now (decision_in d.now) }
 {
-    let n = times.len();
-    let verdict = d.verdict;
-    let state = verdict.state;
-    let innovation = verdict.innovation;
-    let lock = d.lock;
-    let accepted = lock.accepted;
-    let found = d.found;
-    let publishing = is_publishing(state);
-    let duration = times[n - 1] - times[0];
-    let active = active_fraction(configuration, bands, times, energies, values);
-    let ambiguous = is_ambiguous(found);
-    let dense = dense_margin(d.global, found);
-    let stability = magnitude_of(innovation);
-    let track_count = track_count(accepted);
-    let comparable = comparable_frames(hop, bands, times, energies, values);
-    let covered = coverage(bands, times, energies, values);
-    let candidates = candidate_array(comparable, covered, found);
-    let candidate_count = found_count(found);
-    let spectral = spectral_of(d);
+    let publishing = is_publishing(d.verdict.state);
     Diagnostics {
-        query_duration_ms: duration,
-        active_frame_fraction: active,
-        coarse_ambiguous: d.global & ambiguous,
-        dense_margin: dense,
-        offset_stability_ms: stability,
-        track_innovation_ms: innovation,
-        track_count,
+        query_duration_ms: duration_of(window),
+        active_frame_fraction: active_fraction(configuration, window),
+        coarse_ambiguous: d.global & is_ambiguous(&d.found),
+        dense_margin: dense_margin(d.global, &d.found),
+        offset_stability_ms: magnitude_of(d.verdict.innovation),
+        track_innovation_ms: d.verdict.innovation,
+        track_count: track_count(d.lock.accepted),
         offset_tracker_confirmed: publishing,
-        offset_tracker_stable: publishing & (verdict.coast == 0.0),
-        candidate_count,
-        candidates,
-        spectral,
+        offset_tracker_stable: publishing & (d.verdict.coast == 0.0),
+        candidate_count: d.found.len(),
+        candidates: candidate_array(comparable_frames(hop, window), coverage(window), &d.found),
+        spectral: spectral_of(d),
     }
 }
 
 // The magnitude of a number that may be missing.
-fn magnitude_of(m: Maybe) -> Maybe
+fn magnitude_of(m: Option<f64>) -> Option<f64>
     ensures { result ≡ magnitude_of m }
 {
-    match m {
-        Maybe::Absent => Maybe::Absent,
-        Maybe::Is(x) => Maybe::Is(magnitude(x)),
-    }
+    m.map(magnitude)
 }
 
 // |x|: the sign bit is cleared, so that either zero gives +0.
@@ -91,24 +65,18 @@ fn magnitude(x: f64) -> f64
 }
 
 // 1 with a track, 0 without.
-fn track_count(h: Hypothesis) -> usize
-    ensures { result ≡ count_of_track h }
+fn track_count(track: Option<Hypothesis>) -> usize
+    ensures { result ≡ count_of_track track }
 {
-    match h {
-        Hypothesis::Absent => 0,
-        Hypothesis::Held {
-            offset_ms: _,
-            first_evidence_ms: _,
-            last_evidence_ms: _,
-            correlation: _,
-        } => 1,
+    match track {
+        None => 0,
+        Some(_) => 1,
     }
 }
 
 // The margin of a whole search, or 0.
-fn dense_margin(global: bool, found: MatchResult) -> f64
-    requires { found.count ≤ candidates_most }
-    ensures { result ≡ cond global (margin_of (listed found)) zero⁺ }
+fn dense_margin(global: bool, found: &MatchResult) -> f64
+    ensures { result ≡ cond global (margin_of found.now.items) zero⁺ }
 {
     if global {
         return margin(found);
@@ -120,15 +88,5 @@ fn dense_margin(global: bool, found: MatchResult) -> f64
 pub fn is_publishing(s: State) -> bool
     ensures { result ≡ is_publishing s }
 {
-    match s {
-        State::Ready => false,
-        State::Listening => false,
-        State::Locking => false,
-        State::Confirmed => true,
-        State::Locked => true,
-        State::Drifting => false,
-        State::Relocking => false,
-        State::Lost => false,
-        State::Failed => false,
-    }
+    matches!(s, State::Confirmed | State::Locked)
 }

@@ -12,14 +12,16 @@ ghost use Rattle.kistovab.specs.Calls.{Opens, Submits, age_after, age_code, conf
 ghost use Rattle.kistovab.specs.Codes.{answers};
 ghost use Rattle.matcher_spec.specs.Features.{features};
 
-use crate::codes::{COMPUTED, NO_AGE, WORDS_TOO_SHORT, code_of, is_computed};
+use crate::codes::{COMPUTED, NO_AGE, WORDS_TOO_SHORT, code_of};
 use engine::opening::open;
 use engine::submitting::submit;
 use engine::support::support_age;
-use engine_refusals::refusals::{is_refusal, is_refused, number_of};
-use engine_spec::types::{ClockMs, Configuration, Maybe};
+use engine_refusals::refusals::number_of;
+use engine_spec::lent::Window;
+use engine_spec::types::{Answer, ClockMs, Configuration};
 use engine_words::snapshots::{SNAPSHOT_WORDS, write_snapshot};
 use engine_words::states::{STATE_WORDS, read_state, write_state};
+use matcher_spec::lent::{Features, Index};
 
 pub fn kistovab_open(
     minimum_readiness_duration_ms: f64,
@@ -52,24 +54,26 @@ pub fn kistovab_open(
         minimum_average_energy_dbfs,
         minimum_active_frame_fraction,
     };
-    let opened = open(
-        configuration,
-        hop_ms,
+    let reference = Features {
         bands,
         times,
         values,
+    };
+    match open(
+        configuration,
+        hop_ms,
+        &reference,
         fine,
         coarse,
         fine_energy,
         coarse_energy,
-    );
-    let answer = opened.answer;
-    if is_refused(answer) {
-        return code_of(answer);
+    ) {
+        Ok(engine) => {
+            write_state(state, engine);
+            COMPUTED
+        }
+        Err(refusal) => number_of(refusal),
     }
-    let engine = opened.engine;
-    write_state(state, engine);
-    code_of(answer)
 }
 
 // A re-reading leaves the state as it is, a refusal both.
@@ -99,33 +103,35 @@ pub fn kistovab_submit(
     if snapshot.len() < SNAPSHOT_WORDS {
         return WORDS_TOO_SHORT;
     }
-    let engine = read_state(state);
-    let submitted = submit(
-        engine,
+    let index = Index {
         fine,
         coarse,
         fine_energy,
         coarse_energy,
+    };
+    let window = Window {
         bands,
         times,
         energies,
         values,
+    };
+    match submit(
+        read_state(state),
+        &index,
+        &window,
         ClockMs(clock_ms),
         work32,
         work64,
-    );
-    let verdict = submitted.answer;
-    if is_refused(verdict) {
-        return code_of(verdict);
+    ) {
+        Ok(done) => {
+            write_snapshot(snapshot, done.snapshot);
+            if done.answer == Answer::Computed {
+                write_state(state, done.engine);
+            }
+            code_of(done.answer)
+        }
+        Err(refusal) => number_of(refusal),
     }
-    let shown = submitted.snapshot;
-    write_snapshot(snapshot, shown);
-    if is_computed(verdict) {
-        let next = submitted.engine;
-        write_state(state, next);
-        return code_of(verdict);
-    }
-    code_of(verdict)
 }
 
 // Where there is no age, `age` is left as it is.
@@ -136,18 +142,12 @@ pub fn kistovab_support_age(state: &[u64], age: &mut f64) -> u32
     if state.len() < STATE_WORDS {
         return WORDS_TOO_SHORT;
     }
-    let engine = read_state(state);
-    let found = support_age(engine);
-    let refusal = found.refusal;
-    if is_refusal(refusal) {
-        return number_of(refusal);
-    }
-    let coast = found.coast_ms;
-    match coast {
-        Maybe::Absent => NO_AGE,
-        Maybe::Is(x) => {
-            *age = x;
+    match support_age(read_state(state)) {
+        Ok(Some(coast_ms)) => {
+            *age = coast_ms;
             COMPUTED
         }
+        Ok(None) => NO_AGE,
+        Err(refusal) => number_of(refusal),
     }
 }

@@ -7,7 +7,7 @@ ghost use Rattle.places_spec.specs.Places.{restored, store_words};
 ghost use Rattle.kistovab.specs.Stores.{Restores, keep_code, kept_after, restore_code};
 
 use crate::codes::WORDS_TOO_SHORT;
-use engine_refusals::refusals::{is_refusal, number_of};
+use engine_refusals::refusals::number_of;
 use engine_words::states::{STATE_WORDS, read_state, write_state};
 use places::store::{STORE_WORDS, keep, restore};
 
@@ -26,9 +26,10 @@ pub fn kistovab_keep(state: &[u64], name: usize, store: &mut [u64]) -> u32
     if state.len() < STATE_WORDS {
         return WORDS_TOO_SHORT;
     }
-    let engine = read_state(state);
-    let refusal = keep(engine, name, store);
-    number_of(refusal)
+    match keep(read_state(state), name, store) {
+        Ok(()) => 0,
+        Err(refusal) => number_of(refusal),
+    }
 }
 
 // A refusal leaves the state as it is.
@@ -39,13 +40,11 @@ pub fn kistovab_restore(state: &mut [u64], name: usize, store: &[u64]) -> u32
     if state.len() < STATE_WORDS {
         return WORDS_TOO_SHORT;
     }
-    let running = read_state(state);
-    let given = restore(running, name, store);
-    let refusal = given.refusal;
-    if is_refusal(refusal) {
-        return number_of(refusal);
+    match restore(name, store) {
+        Ok(engine) => {
+            write_state(state, engine);
+            0
+        }
+        Err(refusal) => number_of(refusal),
     }
-    let engine = given.engine;
-    write_state(state, engine);
-    number_of(refusal)
 }
