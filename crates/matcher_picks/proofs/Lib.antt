@@ -1,2 +1,1 @@
 pub mod PeakLaws
-pub mod ResultLaws

@@ -1,21 +1,18 @@
--- Lists of places that are all within a bound. Assumes nothing.
-use mathlib.Core.List.{List, [], ◌∷◌}
-use Prim.Native.Nat.{ℕ, zero, suc, ◌≤◌}
-use native.Mathlib.Omega.{arith}
-use lib.ListN.{get_or, set, replicate}
+-- How peaks are picked, one after the other. Assumes nothing.
+use Rattle.std.proofs.Common.{◌≡◌, ℕ, suc, ◌+◌, ◌-◌, ◌<◌, List, [], ◌∷◌, ◌++◌, length, Float, arith, sym}
+use borrow.Author.Tests.{eq-eqb, ne_eqb}
+use Rattle.matcher_spec.specs.Peaks.{best_free, peaks_from}
 
-abbrev pub AllWithin : ℕ → List ℕ → Type 0
-AllWithin b l = (k : ℕ) → get_or l k 0 ≤ b
+module _ (s : List Float) (separation n : ℕ) (taken : List ℕ) (h : n < 8) where
+  k : 8 - n ≡ suc (8 - (n + 1))
+  k = omega arith
 
-pub zeros_within : (b n : ℕ) → AllWithin b (replicate n 0)
-zeros_within b zero k = omega arith
-zeros_within b (suc n) zero = omega arith
-zeros_within b (suc n) (suc k) = zeros_within b n k
+  -- The best free place is picked,
+  pub pick_more : (b : ℕ) → b ≡ best_free s separation taken → b < length s → peaks_from s separation (8 - n) taken ≡ peaks_from s separation (8 - (n + 1)) (taken ++ b ∷ [])
+  unfolding peaks_from
+  pick_more b e w = rw (k, ← e, ne_eqb b (length s) (λ q. omega arith))
 
--- a store of one more that is within the bound
-pub set_within : (b : ℕ) (l : List ℕ) (i v : ℕ) → AllWithin b l → v ≤ b → AllWithin b (set l i v)
-set_within b [] i v p h k = p k
-set_within b (x ∷ l) zero v p h zero = h
-set_within b (x ∷ l) zero v p h (suc k) = p (suc k)
-set_within b (x ∷ l) (suc i) v p h zero = p zero
-set_within b (x ∷ l) (suc i) v p h (suc k) = set_within b l i v (λ j. p (suc j)) h k
+  -- and none where none is free.
+  pub pick_none : length s ≡ best_free s separation taken → peaks_from s separation (8 - n) taken ≡ taken
+  unfolding peaks_from
+  pick_none e = rw (k, eq-eqb _ _ (sym e))

@@ -1,10 +1,11 @@
 // Which places of a list of scores are picked.
-ghost use Rattle.std.specs.Prelude.{ℕ, ◌<◌, ◌≤◌, get_or, length, cond, ◌≡◌};
+ghost use Rattle.std.specs.Prelude.{◌<◌, get_or, length, cond, ◌≡◌, IfSome};
 ghost use Rattle.std.specs.Float.{nan};
-ghost use Rattle.matcher_spec.specs.Peaks.{apart, best_free, better, first_maximum, near_to, peaks};
-ghost use Rattle.matcher_picks.specs.Picks.{picked_of};
-ghost use Rattle.matcher_spec.specs.Limits.{candidates_most};
+ghost use Rattle.std.specs.List.{All};
+ghost use Rattle.std.specs.Option.{unwrap_or};
+ghost use Rattle.matcher_spec.specs.Peaks.{best_free, better, first_maximum, near_to, peaks};
 
+use arrayvec::ArrayVec;
 use matcher_spec::limits::CANDIDATES_MOST;
 
 // A place and the score there.
@@ -15,110 +16,76 @@ pub struct Maximum {
 }
 
 // The first of the largest scores.
+#[tactic(auto, unfolding(matcher_spec::specs::Peaks::maximum_to))]
 pub fn first_maximum(scores: &[f64]) -> Maximum
     requires { 0 < length scores.now }
     ensures at_value { result.at ≡ first_maximum scores.now }
     ensures score_value { result.score ≡ get_or scores.now result.at nan }
     ensures at_in_bounds { result.at < length scores.now }
 {
-    let mut best = 0usize;
-    let mut i = 0usize;
-    while i < scores.len() {
-        if scores[i] > scores[best] {
-            best = i;
+    let mut at = 0;
+    for i in 0..scores.len() {
+        if scores[i] > scores[at] {
+            at = i;
         }
-        i += 1;
     }
     Maximum {
-        at: best,
-        score: scores[best],
+        at,
+        score: scores[at],
     }
 }
 
 // Places in the order in which they were picked.
-#[derive(Clone, Copy)]
-pub struct Picked {
-    pub at: [usize; CANDIDATES_MOST],
-    pub count: usize,
-}
+pub type Picked = ArrayVec<usize, CANDIDATES_MOST>;
 
 // At most 8 places, each the best that is free.
+#[tactic(auto, using(crate::proofs::PeakLaws::pick_more, crate::proofs::PeakLaws::pick_none), unfolding(matcher_spec::specs::Peaks::peaks_from))]
 pub fn pick_peaks(scores: &[f64], separation: usize) -> Picked
-    ensures value { result ≡ picked_of (peaks scores.now separation) }
-    ensures count_le_candidates_most { result.count ≤ candidates_most }
-    ensures by_index { (k : ℕ) → get_or result.at k 0 ≤ length scores.now }
+    ensures value { result.items ≡ peaks scores.now separation }
+    ensures in_bounds { All (λ place. place < length scores.now) result.items }
 {
-    let mut at = [0usize; CANDIDATES_MOST];
-    let mut n = 0usize;
-    while n < CANDIDATES_MOST {
-        let best = best_free(scores, separation, &at[..n]);
-        if best == scores.len() {
-            return Picked { at, count: n };
-        }
-        at[n] = best;
-        n += 1;
+    let mut picked = Picked::new();
+    for _ in 0..CANDIDATES_MOST {
+        let Some(best) = best_free(scores, separation, &picked) else {
+            return picked;
+        };
+        picked.push(best);
     }
-    Picked { at, count: n }
+    picked
 }
 
-// The first of the largest scores among the free places.
-fn best_free(scores: &[f64], separation: usize, taken: &[usize]) -> usize
-    ensures value { result ≡ best_free scores.now separation taken.now }
-    ensures upper_bound { result ≤ length scores.now }
-{
-    let mut best = scores.len();
-    let mut i = 0usize;
-    while i < scores.len() {
-        best = free_step(scores, separation, taken, best, i);
-        i += 1;
-    }
-    best
-}
-
-// The best so far, or place i if that beats it and is free. Nearness is a loop and few places beat
+// The first of the largest scores among the free places. Nearness is a loop and few places beat
 // the best so far, so only those are asked.
-fn free_step(scores: &[f64], separation: usize, taken: &[usize], best: usize, i: usize) -> usize
-    requires fact_1 { best ≤ length scores.now }
-    requires fact_2 { i < length scores.now }
-    ensures value { result ≡ cond (near_to taken.now separation i (length taken.now)) best (better scores.now best i) }
-    ensures upper_bound { result ≤ length scores.now }
+#[tactic(auto, unfolding(matcher_spec::specs::Peaks::free_to))]
+fn best_free(scores: &[f64], separation: usize, taken: &[usize]) -> Option<usize>
+    ensures value { unwrap_or result (length scores.now) ≡ best_free scores.now separation taken.now }
+    ensures in_bounds { IfSome result (λ i. i < length scores.now) }
 {
-    if beats(scores, best, i) {
-        if is_near(taken, separation, i) {
-            return best;
+    let mut best = None;
+    for i in 0..scores.len() {
+        if beats(scores, best, i) && !is_near(taken, separation, i) {
+            best = Some(i);
         }
-        return i;
     }
     best
 }
 
-// Whether place i beats the best so far; there is none yet where that is the number of scores.
-fn beats(scores: &[f64], best: usize, i: usize) -> bool
-    requires fact_1 { best ≤ length scores.now }
-    requires fact_2 { i < length scores.now }
-    ensures { cond result i best ≡ better scores.now best i }
+// Whether place i beats the best so far.
+fn beats(scores: &[f64], best: Option<usize>, i: usize) -> bool
+    requires best_in_bounds { IfSome best (λ b. b < length scores.now) }
+    requires i_in_bounds { i < length scores.now }
+    ensures { cond result i (unwrap_or best (length scores.now)) ≡ better scores.now (unwrap_or best (length scores.now)) i }
 {
-    best == scores.len() || scores[i] > scores[best]
+    match best {
+        None => true,
+        Some(b) => scores[i] > scores[b],
+    }
 }
 
 // Whether one of the places taken is nearer than the separation to i.
+#[tactic(auto, unfolding(matcher_spec::specs::Peaks::near_to))]
 fn is_near(taken: &[usize], separation: usize, i: usize) -> bool
-    ensures { result ≡ near_to taken.now separation i (length taken.now) }
+    ensures { result ≡ near_to taken.now separation i }
 {
-    let mut found = false;
-    let mut k = 0usize;
-    while k < taken.len() {
-        if distance(taken[k], i) < separation {
-            found = true;
-        }
-        k += 1;
-    }
-    found
-}
-
-// How far apart two places are.
-fn distance(a: usize, b: usize) -> usize
-    ensures { result ≡ apart a b }
-{
-    if a < b { b - a } else { a - b }
+    taken.iter().any(|at| at.abs_diff(i) < separation)
 }

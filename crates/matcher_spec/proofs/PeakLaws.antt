@@ -92,16 +92,11 @@ first_maximum_lem (x ∷ l) h N = let b = maximum_best (x ∷ l) N (length l) (o
 }
 
 -- ---- free places
-near_apart : (taken : List ℕ) (separation i n k : ℕ) → near_to taken separation i n ≡ false → k < n → separation ≤ apart (get_or taken k 0) i
-unfolding near_to
-near_apart taken separation i zero k e h = absurd (not-suc-le-zero h)
-near_apart taken separation i (suc n) k e h = ⊎_elim
-    (λ (u : k ≡ n). rw u (ltb-false (apart (get_or taken n 0) i) separation (or_false_r (near_to taken separation i n) (ltb (apart (get_or taken n 0) i) separation) e)))
-    (λ (u : k < n). near_apart taken separation i n k (or_false_l (near_to taken separation i n) (ltb (apart (get_or taken n 0) i) separation) e) u)
-    (eq-or-lt_of_le (omega arith))
-
 pub free_apart : FreeIsApart
-free_apart separation taken i k = near_apart taken separation i (length taken) k
+unfolding near_to
+free_apart separation [] i k e h = absurd (not-suc-le-zero h)
+free_apart separation (place ∷ taken) i zero e h = ltb-false (apart place i) separation (or_false_l (ltb (apart place i) separation) (near_to taken separation i) e)
+free_apart separation (place ∷ taken) i (suc k) e h = free_apart separation taken i k (or_false_r (ltb (apart place i) separation) (near_to taken separation i) e) (omega arith)
 
 -- what a scan of the first n places has found
 data Scanned (s : List Float) (separation : ℕ) (taken : List ℕ) (n p : ℕ) : Type 0 where
@@ -123,7 +118,7 @@ module _ (s : List Float) (separation : ℕ) (taken : List ℕ) where
   scan : (n : ℕ) → n ≤ length s → Scanned s separation taken n (free_to s separation taken n)
   unfolding free_to
   scan zero h = none refl (λ i w a. not-suc-le-zero w)
-  scan (suc n) h = cond_elim (Scanned s separation taken (suc n)) (near_to taken separation n (length taken)) (free_to s separation taken n) (better s (free_to s separation taken n) n)
+  scan (suc n) h = cond_elim (Scanned s separation taken (suc n)) (near_to taken separation n) (free_to s separation taken n) (better s (free_to s separation taken n) n)
       (λ e. scan_skip (λ a. never e a) (scan n (omega arith)))
       (λ e. scan_more (omega arith) e (scan n (omega arith)))
 

@@ -1,11 +1,10 @@
 -- Candidates: order, the 750 rule, the result and its margin (document 01, Matcher; matcher.rs, `match_query`, `MatchResult`). Definitions only.
-use Rattle.std.specs.Prelude.{◌-◌, Bool, false, cond, ◌||◌, List, [], ◌∷◌, ◌++◌, length, take, replicate, Float}
+use Rattle.std.specs.Prelude.{Bool, cond, List, [], ◌∷◌, ◌++◌, Float}
 use Rattle.std.specs.Float.{binary64}
 use Rattle.std.specs.Float.Ieee.{lt, of_bits}
+use Rattle.std.specs.List.{list_any}
 use Rattle.numbers_spec.specs.Arithmetic.{◌⊖◌, zero⁺, absolute}
 use Rattle.matcher_spec.specs.declared.types.Candidate.{Candidate}
-use Rattle.matcher_spec.specs.declared.types.MatchResult.{MatchResult}
-use Rattle.matcher_spec.specs.Limits.{candidates_most}
 
 -- ---- stable order, highest score first
 -- c before the first that scores lower: after those that score the same.
@@ -28,8 +27,7 @@ apart_ms = of_bits binary64 0x4087700000000000
 
 -- Whether c is nearer than 750 to one already listed.
 unfoldable pub crowded : List Candidate → Candidate → Bool
-crowded [] c = false
-crowded (d ∷ ds) c = lt (absolute (d.offset_ms ⊖ c.offset_ms)) apart_ms || crowded ds c
+crowded listed c = list_any (λ (d : Candidate). lt (absolute (d.offset_ms ⊖ c.offset_ms)) apart_ms) listed
 
 -- The listed candidates and then, in order, those of the second list that are not too near to one listed before.
 unfoldable pub independent_from : List Candidate → List Candidate → List Candidate
@@ -39,18 +37,11 @@ independent_from listed (c ∷ cs) = cond (crowded listed c) (independent_from l
 abbrev pub independent : List Candidate → List Candidate
 independent = independent_from []
 
--- ---- the result: an array of 8 with a count
--- What stands behind the last candidate.
+-- What stands where a list has no candidate.
 abbrev pub blank : Candidate
 blank = record { offset_ms = zero⁺; score = zero⁺; first_half_score = zero⁺; second_half_score = zero⁺; recent_score = zero⁺ }
 
-abbrev pub result_of : List Candidate → MatchResult
-result_of l = record { candidates = l ++ replicate (candidates_most - length l) blank; count = length l }
-
--- The candidates of a result.
-abbrev pub listed : MatchResult → List Candidate
-listed r = take r.count r.candidates
-
+-- ---- the margin
 -- The margin: the best score less the second; a lone candidate's is its own score, none gives 0.
 unfoldable pub margin_of : List Candidate → Float
 margin_of [] = zero⁺

@@ -24,7 +24,7 @@ FirstMaximum = (s : List Float) → 0 < length s → Numbers s → FirstLargest 
 -- ---- peaks
 -- Place i is not near one taken.
 abbrev pub Free : ℕ → List ℕ → ℕ → Type 0
-Free separation taken i = near_to taken separation i (length taken) ≡ false
+Free separation taken i = near_to taken separation i ≡ false
 
 -- That is: it is the separation or more from each of them.
 abbrev pub FreeIsApart : Type 0

@@ -1,6 +1,8 @@
 -- First maximum and peaks (document 01, Matcher; matcher.rs, `first_maximum`, `peaks`). Definitions only.
-use Rattle.std.specs.Prelude.{ℕ, zero, suc, ◌-◌, Bool, false, cond, ◌||◌, List, [], ◌∷◌, ◌++◌, ltb, eqb, length, get_or, Float}
+use Rattle.std.specs.Prelude.{ℕ, zero, suc, Bool, cond, List, [], ◌∷◌, ◌++◌, ltb, eqb, length, get_or, Float}
 use Rattle.std.specs.Float.{nan}
+use Rattle.std.specs.Int.{abs_diff}
+use Rattle.std.specs.List.{list_any}
 use Rattle.std.specs.Float.Ieee.{lt}
 use Rattle.matcher_spec.specs.Limits.{candidates_most}
 
@@ -14,12 +16,11 @@ first_maximum s = maximum_to s (length s)
 
 -- How far apart two places are.
 abbrev pub apart : ℕ → ℕ → ℕ
-apart a b = cond (ltb a b) (b - a) (a - b)
+apart = abs_diff
 
--- Whether one of the first n places taken is nearer than the separation to i.
-unfoldable pub near_to : List ℕ → ℕ → ℕ → ℕ → Bool
-near_to taken separation i zero = false
-near_to taken separation i (suc n) = near_to taken separation i n || ltb (apart (get_or taken n 0) i) separation
+-- Whether one of the places taken is nearer than the separation to i.
+unfoldable pub near_to : List ℕ → ℕ → ℕ → Bool
+near_to taken separation i = list_any (λ (place : ℕ). ltb (apart place i) separation) taken
 
 -- Place i against the best so far. There is none yet where that is the number of scores.
 abbrev pub better : List Float → ℕ → ℕ → ℕ
@@ -28,7 +29,7 @@ better s best i = cond (eqb best (length s)) i (cond (lt (get_or s best nan) (ge
 -- The first of the largest among the first n scores at places that are free: not near one taken. The number of scores where none is.
 unfoldable pub free_to : List Float → ℕ → List ℕ → ℕ → ℕ
 free_to s separation taken zero = length s
-free_to s separation taken (suc n) = cond (near_to taken separation n (length taken)) (free_to s separation taken n) (better s (free_to s separation taken n) n)
+free_to s separation taken (suc n) = cond (near_to taken separation n) (free_to s separation taken n) (better s (free_to s separation taken n) n)
 
 abbrev pub best_free : List Float → ℕ → List ℕ → ℕ
 best_free s separation taken = free_to s separation taken (length s)

@@ -1,5 +1,6 @@
 // What a search takes and gives.
 use crate::limits::CANDIDATES_MOST;
+use arrayvec::ArrayVec;
 
 // What a search knows of its reference besides the buffers.
 #[derive(Clone, Copy)]
@@ -11,7 +12,7 @@ pub struct Reference {
 }
 
 // A candidate maps capture time to reference time by adding `offset_ms`.
-#[derive(Clone, Copy)]
+#[derive(Clone, Copy, Default)]
 pub struct Candidate {
     pub offset_ms: f64,
     pub score: f64,
@@ -20,9 +21,5 @@ pub struct Candidate {
     pub recent_score: f64,
 }
 
-// The first `count` candidates, the best first.
-#[derive(Clone, Copy)]
-pub struct MatchResult {
-    pub candidates: [Candidate; CANDIDATES_MOST],
-    pub count: usize,
-}
+// What a search finds: at most 8 candidates, the best first.
+pub type MatchResult = ArrayVec<Candidate, CANDIDATES_MOST>;

@@ -1,11 +1,7 @@
--- `matcher_picks::candidates::keep_independent` meets its contract. The loop's invariant: to go on from those kept gives what the contract says. Assumes nothing.
-use Prim.Native.Nat.{◌-◌, ◌≤◌}
-use lib.ListN.{take}
-use Rattle.matcher_spec.proofs.CandidateLaws.{Kept}
+-- The loop's invariant: to go on from those kept gives what the contract says.
+use Rattle.std.proofs.Common.{◌≡◌, ◌≤◌, length, drop}
+use Rattle.matcher_spec.specs.Candidates.{independent, independent_from}
 use Rattle.matcher_picks.proofs.candidates.keep_independent.Given as goal
 
-abbrev pub invariant-loop-i : goal.invariant-loop-i
-invariant-loop-i l = (l.i ≤ l.n) × Kept (take l.n l.candidates) l.i l.kept
-
-abbrev pub decreases-loop-i : goal.decreases-loop-i
-decreases-loop-i l = l.n - l.i
+abbrev pub invariant-loop-c : goal.invariant-loop-c
+invariant-loop-c l = (length l.kept.items ≤ l.c-index) × (independent_from l.kept.items (drop l.c-index l.sorted.items) ≡ independent l.sorted.items)
