@@ -1,10 +1,10 @@
 -- Refusals in order: what the code's test for one says, and what a window that is not refused is bounded by. Assumes nothing.
 use Prim.Native.Nat.{◌≤◌}
-use mathlib.Core.Bool.{Bool, true, false, ◌&&◌}
+use mathlib.Core.Bool.{Bool, false, ◌&&◌}
 use mathlib.Core.Path.{◌≡◌, sym, ap, ◌∙◌}
 use lib.Dec.{ltb, leb, leb→le}
 use lib.ListN.{length}
-use Rattle.engine_spec.specs.Refusals.{number_of, refuses, ◌then◌, window_refusal}
+use Rattle.engine_spec.specs.Refusals.{number_of, refuses, window_refusal}
 use Rattle.engine_spec.specs.Windows.{Window}
 use Rattle.engine_spec.specs.declared.types.Refusal.{Refusal}
 use Rattle.engine_spec.specs.declared.types.Refusal.TheVariants as refusal
@@ -16,12 +16,6 @@ use Rattle.matcher_spec.specs.Limits.{window_most, bands_most}
 module _ (r : Refusal) {x : Refusal} {b : Bool} (q : x ≡ r) (e : b ≡ refuses x) where
   pub refusal_tested : {z : Bool} → b ≡ z → refuses r ≡ z
   refusal_tested t = sym (e ∙ ap refuses q) ∙ t
-
-  pub first_refuses : (rest : Refusal) → b ≡ true → x ≡ (r then rest)
-  first_refuses rest t = rw (refusal_tested t) q
-
-  pub second_decides : (rest : Refusal) {y : Refusal} → b ≡ false → y ≡ rest → y ≡ (r then rest)
-  second_decides rest t p = rw (refusal_tested t) p
 
 pub record Small (w : Window) : Type 0 where
   pub frames : length w.times ≤ window_most

@@ -1,24 +1,12 @@
--- Tests of counts as the definitions write them, and bounds of products. Assumes nothing.
-use Prim.Native.Nat.{ℕ, zero, suc, ◌*◌, ◌≤◌}
-use mathlib.Core.Bool.{Bool, true, false}
-use mathlib.Core.Path.{◌≡◌, refl, sym, subst}
+-- Counts in range, and bounds of products. Assumes nothing.
+use Prim.Native.Nat.{ℕ, ◌*◌, ◌≤◌}
+use mathlib.Core.Bool.{Bool, true}
+use mathlib.Core.Path.{◌≡◌, sym, subst}
 use native.Mathlib.Nat.{mul-le-mul}
-use native.Mathlib.Omega.{arith}
-use borrow.Author.Tests.{lt-ltb}
-use lib.Dec.{T, ltb, leb, leb→le}
+use lib.Dec.{T, leb, leb→le}
 use Rattle.engine_spec.specs.Refusals.{counts_in_range}
 use Rattle.engine_spec.proofs.Tests.{and_l, and_r}
 use Rattle.matcher_spec.specs.Limits.{frames_most, bands_most}
-
-pub nothing : {n : ℕ} → n ≡ 0 → ltb 0 n ≡ false
-nothing e = rw e refl
-
-pub something : {n : ℕ} → (n ≡ 0 → ⊥) → ltb 0 n ≡ true
-something {n = n} h = go n h
-  where
-    go : (n : ℕ) → (n ≡ 0 → ⊥) → ltb 0 n ≡ true
-    go zero h = absurd (h refl)
-    go (suc n) h = lt-ltb 0 (suc n) (omega arith)
 
 pub few : (b n B N : ℕ) → b ≤ B → n ≤ N → b * n ≤ B * N
 few b n B N h k = mul-le-mul h k

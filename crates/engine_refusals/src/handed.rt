@@ -1,54 +1,45 @@
 // The order of refusals.
 ghost use Rattle.std.specs.Prelude.{◌^◌, ◌<◌, ◌≤◌, length, ◌≡◌};
 ghost use Rattle.engine_spec.specs.Refusals.{handed_refusal, index_fits, lent_refusal, opening_refusal, submission_refusal, valid_window, window_refusal, work_fits};
-ghost use Rattle.matcher_spec.specs.Index.{lent};
-ghost use Rattle.engine_spec.specs.Lent.{handed, window};
-ghost use Rattle.matcher_spec.specs.Features.{features};
+ghost use Rattle.engine_spec.specs.Lent.{handed};
 ghost use Rattle.matcher_spec.specs.Limits.{window_most, bands_most};
 
 use crate::ranges::{are_near, are_near_or_not_finite, are_valid_energies, is_hop};
 use crate::refusals::is_refusal;
 use crate::states::{are_counts, is_valid_configuration, is_valid_engine};
+use engine_spec::lent::Window;
 use engine_spec::types::{ClockMs, Configuration, Engine, Refusal, Settings};
 use matcher_bands::timeline::are_valid;
+use matcher_spec::lent::{Features, Index};
 use matcher_spec::limits::{BANDS_MOST, WINDOW_MOST};
 use numbers::float::is_finite;
 
 // 6: the index holds a row of frames and one of a quarter of them for each band, with an energy more
 // than values in a row.
-fn index_fits(
-    frames: usize,
-    bands: usize,
-    fine: &[f32],
-    coarse: &[f32],
-    fine_energy: &[f64],
-    coarse_energy: &[f64],
-) -> bool
-    requires fact_1 { frames < 2 ^ 16 }
-    requires fact_2 { bands < 2 ^ 16 }
-    ensures { result ≡ index_fits frames bands (lent fine.now coarse.now fine_energy.now coarse_energy.now) }
+#[tactic(auto, unfolding(engine_spec::specs::Refusals::index_fits), using(crate::proofs::TestLaws::few))]
+fn index_fits(frames: usize, bands: usize, index: &Index<'_>) -> bool
+    requires few_frames { frames < 2 ^ 16 }
+    requires few_bands { bands < 2 ^ 16 }
+    ensures { result ≡ index_fits frames bands index.now }
 {
-    (bands * frames <= fine.len())
-        & ((bands * (frames / 4) <= coarse.len())
-            & ((bands * (frames + 1) <= fine_energy.len())
-                & (bands * (frames / 4 + 1) <= coarse_energy.len())))
+    (bands * frames <= index.fine.len())
+        & ((bands * (frames / 4) <= index.coarse.len())
+            & ((bands * (frames + 1) <= index.fine_energy.len())
+                & (bands * (frames / 4 + 1) <= index.coarse_energy.len())))
 }
 
 // 1 to 6, in document 01's order. Sizes are tested before any product of them.
+#[tactic(auto, unfolding(engine_spec::specs::Refusals::opening_refusal))]
 pub fn opening_refusal(
     configuration: Configuration,
     hop: f64,
-    bands: usize,
-    times: &[f64],
-    values: &[f32],
-    fine: &[f32],
-    coarse: &[f32],
-    fine_energy: &[f64],
-    coarse_energy: &[f64],
+    reference: &Features<'_>,
+    index: &Index<'_>,
 ) -> Refusal
-    ensures { result ≡ opening_refusal configuration hop (features bands times.now values.now) (lent fine.now coarse.now fine_energy.now coarse_energy.now) }
+    ensures { result ≡ opening_refusal configuration hop reference.now index.now }
 {
-    let n = times.len();
+    let n = reference.times.len();
+    let bands = reference.bands;
     if !is_valid_configuration(configuration) {
         return Refusal::InvalidConfiguration;
     }
@@ -58,32 +49,25 @@ pub fn opening_refusal(
     if !are_counts(n, bands) {
         return Refusal::ReferenceTooLarge;
     }
-    if values.len() != bands * n {
+    if reference.values.len() != bands * n {
         return Refusal::ReferenceMiscounted;
     }
-    if !are_near_or_not_finite(times) {
+    if !are_near_or_not_finite(reference.times) {
         return Refusal::ReferenceTimeTooFar;
     }
-    if !index_fits(n, bands, fine, coarse, fine_energy, coarse_energy) {
+    if !index_fits(n, bands, index) {
         return Refusal::IndexTooShort;
     }
     Refusal::None
 }
 
 // 6 and 8: the index and the clock.
-fn lent_refusal(
-    settings: Settings,
-    fine: &[f32],
-    coarse: &[f32],
-    fine_energy: &[f64],
-    coarse_energy: &[f64],
-    clock: ClockMs,
-) -> Refusal
-    ensures { result ≡ lent_refusal settings (lent fine.now coarse.now fine_energy.now coarse_energy.now) clock }
+fn lent_refusal(settings: Settings, index: &Index<'_>, clock: ClockMs) -> Refusal
+    ensures { result ≡ lent_refusal settings index.now clock }
 {
     let frames = settings.reference_frames as usize;
     let bands = settings.reference_bands as usize;
-    if !index_fits(frames, bands, fine, coarse, fine_energy, coarse_energy) {
+    if !index_fits(frames, bands, index) {
         return Refusal::IndexTooShort;
     }
     if !is_finite(clock.0) {
@@ -93,42 +77,47 @@ fn lent_refusal(
 }
 
 // 11: bands, lengths that agree, and values that are finite and not negative.
-fn is_valid_window(bands: usize, times: &[f64], energies: &[f64], values: &[f32]) -> bool
-    requires fact_1 { bands ≤ bands_most }
-    requires fact_2 { length times.now ≤ window_most }
-    ensures { result ≡ valid_window (window bands times.now energies.now values.now) }
+#[tactic(auto, unfolding(engine_spec::specs::Refusals::valid_window), using(crate::proofs::TestLaws::few))]
+fn is_valid_window(window: &Window<'_>) -> bool
+    requires few_bands { window.now.bands ≤ bands_most }
+    requires few_frames { length window.now.times ≤ window_most }
+    ensures { result ≡ valid_window window.now }
 {
-    let n = times.len();
-    (0 < bands) & ((energies.len() == n) & ((values.len() == bands * n) & are_valid(values)))
+    let n = window.times.len();
+    (0 < window.bands)
+        & ((window.energies.len() == n)
+            & ((window.values.len() == window.bands * n) & are_valid(window.values)))
 }
 
 // 9 to 12: a window alone. Sizes are tested before any product of them.
-pub fn window_refusal(bands: usize, times: &[f64], energies: &[f64], values: &[f32]) -> Refusal
-    ensures { result ≡ window_refusal (window bands times.now energies.now values.now) }
+#[tactic(auto, unfolding(engine_spec::specs::Refusals::window_refusal))]
+pub fn window_refusal(window: &Window<'_>) -> Refusal
+    ensures { result ≡ window_refusal window.now }
 {
-    let n = times.len();
+    let n = window.times.len();
     if n == 0 {
         return Refusal::NoFrames;
     }
     if WINDOW_MOST < n {
         return Refusal::WindowTooLarge;
     }
-    if BANDS_MOST < bands {
+    if BANDS_MOST < window.bands {
         return Refusal::WindowTooLarge;
     }
-    if !is_valid_window(bands, times, energies, values) {
+    if !is_valid_window(window) {
         return Refusal::WindowInvalid;
     }
-    if !are_near(times) {
+    if !are_near(window.times) {
         return Refusal::WindowTimeOutOfRange;
     }
-    if !are_valid_energies(energies) {
+    if !are_valid_energies(window.energies) {
         return Refusal::WindowTimeOutOfRange;
     }
     Refusal::None
 }
 
 // 13: by the window's bands and frames and the state's frames, a `u16`.
+#[tactic(auto, unfolding(engine_spec::specs::Refusals::work_fits), using(crate::proofs::TestLaws::few))]
 fn work_fits(
     bands: usize,
     frames: usize,
@@ -136,79 +125,56 @@ fn work_fits(
     room32: usize,
     room64: usize,
 ) -> bool
-    requires fact_1 { bands ≤ bands_most }
-    requires fact_2 { frames ≤ window_most }
-    requires fact_3 { reference_frames < 2 ^ 16 }
+    requires few_bands { bands ≤ bands_most }
+    requires few_frames { frames ≤ window_most }
+    requires few_reference_frames { reference_frames < 2 ^ 16 }
     ensures { result ≡ work_fits bands frames reference_frames room32 room64 }
 {
     (2 * (bands * frames) <= room32) & (3 * (bands * (frames + 1)) + reference_frames <= room64)
 }
 
 // 6 and 8 to 13: what may be refused of a submission to a state with these settings.
+#[tactic(auto, unfolding(engine_spec::specs::Refusals::handed_refusal))]
 fn handed_refusal(
     settings: Settings,
-    fine: &[f32],
-    coarse: &[f32],
-    fine_energy: &[f64],
-    coarse_energy: &[f64],
-    bands: usize,
-    times: &[f64],
-    energies: &[f64],
-    values: &[f32],
+    index: &Index<'_>,
+    window: &Window<'_>,
     clock: ClockMs,
     room32: usize,
     room64: usize,
 ) -> Refusal
-    ensures { result ≡ handed_refusal settings (handed (lent fine.now coarse.now fine_energy.now coarse_energy.now) (window bands times.now energies.now values.now) clock room32 room64) }
+    ensures { result ≡ handed_refusal settings (handed index.now window.now clock room32 room64) }
 {
-    let of_lent = lent_refusal(settings, fine, coarse, fine_energy, coarse_energy, clock);
+    let of_lent = lent_refusal(settings, index, clock);
     if is_refusal(of_lent) {
         return of_lent;
     }
-    let of_window = window_refusal(bands, times, energies, values);
+    let of_window = window_refusal(window);
     if is_refusal(of_window) {
         return of_window;
     }
     let frames = settings.reference_frames as usize;
-    if !work_fits(bands, times.len(), frames, room32, room64) {
+    if !work_fits(window.bands, window.times.len(), frames, room32, room64) {
         return Refusal::WorkTooShort;
     }
     Refusal::None
 }
 
 // 7 first: what the state holds.
+#[tactic(auto, unfolding(engine_spec::specs::Refusals::submission_refusal))]
 pub fn submission_refusal(
     engine: Engine,
-    fine: &[f32],
-    coarse: &[f32],
-    fine_energy: &[f64],
-    coarse_energy: &[f64],
-    bands: usize,
-    times: &[f64],
-    energies: &[f64],
-    values: &[f32],
+    index: &Index<'_>,
+    window: &Window<'_>,
     clock: ClockMs,
     room32: usize,
     room64: usize,
 ) -> Refusal
-    ensures { result ≡ submission_refusal engine (handed (lent fine.now coarse.now fine_energy.now coarse_energy.now) (window bands times.now energies.now values.now) clock room32 room64) }
+    ensures { result ≡ submission_refusal engine (handed index.now window.now clock room32 room64) }
 {
     if !is_valid_engine(engine) {
         return Refusal::StateOutOfRange;
     }
     let settings = engine.settings;
-    handed_refusal(
-        settings,
-        fine,
-        coarse,
-        fine_energy,
-        coarse_energy,
-        bands,
-        times,
-        energies,
-        values,
-        clock,
-        room32,
-        room64,
-    )
+    handed_refusal(settings, index, window, clock, room32, room64)
 }

@@ -38,7 +38,7 @@ fn is_near_or_not_finite(t: f64) -> bool
 fn is_valid_energy(x: f64) -> bool
     ensures { result ≡ valid_energy x }
 {
-    x < 1.0 / 0.0
+    x < f64::INFINITY
 }
 
 // From 1 to 1,000; a NaN is not.
@@ -52,40 +52,19 @@ pub fn is_hop(hop: f64) -> bool
 pub fn are_near(times: &[f64]) -> bool
     ensures { result ≡ every near times.now }
 {
-    let mut i = 0usize;
-    while i < times.len() {
-        if !is_near(times[i]) {
-            return false;
-        }
-        i += 1;
-    }
-    true
+    times.iter().all(|t| is_near(*t))
 }
 
 // Whether every time is near or not finite.
 pub fn are_near_or_not_finite(times: &[f64]) -> bool
     ensures { result ≡ every near_or_not_finite times.now }
 {
-    let mut i = 0usize;
-    while i < times.len() {
-        if !is_near_or_not_finite(times[i]) {
-            return false;
-        }
-        i += 1;
-    }
-    true
+    times.iter().all(|t| is_near_or_not_finite(*t))
 }
 
 // Whether every number is a valid energy.
 pub fn are_valid_energies(energies: &[f64]) -> bool
     ensures { result ≡ every valid_energy energies.now }
 {
-    let mut i = 0usize;
-    while i < energies.len() {
-        if !is_valid_energy(energies[i]) {
-            return false;
-        }
-        i += 1;
-    }
-    true
+    energies.iter().all(|x| is_valid_energy(*x))
 }

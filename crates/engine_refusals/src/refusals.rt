@@ -6,6 +6,7 @@ ghost use Rattle.engine_spec.specs.Refusals.{number_of, refuses};
 use engine_spec::types::{Answer, Refusal};
 
 // The number of document 01, and 0 for none.
+#[tactic(auto, unfolding(engine_spec::specs::Refusals::number_of))]
 pub fn number_of(r: Refusal) -> u32
     ensures { result ≡ number_of r }
 {
@@ -37,13 +38,9 @@ pub fn is_refusal(r: Refusal) -> bool
     0 < number_of(r)
 }
 
+#[tactic(auto, unfolding(engine_spec::specs::Cases::is_refused))]
 pub fn is_refused(a: Answer) -> bool
     ensures { result ≡ is_refused a }
 {
-    match a {
-        Answer::Opened => false,
-        Answer::Computed => false,
-        Answer::Reread => false,
-        Answer::Refused(_) => true,
-    }
+    matches!(a, Answer::Refused(_))
 }

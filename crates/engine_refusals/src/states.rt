@@ -19,6 +19,7 @@ fn is_valid_duration(d: f64) -> bool
 }
 
 // 1: `Configuration::validate`.
+#[tactic(auto, unfolding(engine_spec::specs::Refusals::valid_configuration))]
 pub fn is_valid_configuration(c: Configuration) -> bool
     ensures { result ≡ valid_configuration c }
 {
@@ -45,6 +46,7 @@ fn is_both_or_neither(frames: usize, bands: usize) -> bool
 }
 
 // What is fixed at opening.
+#[tactic(auto, unfolding(engine_spec::specs::Refusals::valid_settings))]
 fn is_valid_settings(s: Settings) -> bool
     ensures { result ≡ valid_settings s }
 {
@@ -56,6 +58,7 @@ fn is_valid_settings(s: Settings) -> bool
 }
 
 // All four numbers of a place.
+#[tactic(auto, unfolding(engine_spec::specs::Refusals::valid_hypothesis))]
 fn is_valid_hypothesis(h: Hypothesis) -> bool
     ensures { result ≡ valid_hypothesis h }
 {
@@ -78,10 +81,11 @@ fn is_valid_hypothesis(h: Hypothesis) -> bool
 fn is_valid_search_time(t: RecordedMs) -> bool
     ensures { result ≡ valid_search_time t }
 {
-    is_near(t.0) | (t.0 == -1.0 / 0.0)
+    is_near(t.0) | (t.0 == f64::NEG_INFINITY)
 }
 
 // Pending, accepted and the search time.
+#[tactic(auto, unfolding(engine_spec::specs::Refusals::valid_lock))]
 fn is_valid_lock(l: Lock) -> bool
     ensures { result ≡ valid_lock l }
 {
@@ -92,6 +96,7 @@ fn is_valid_lock(l: Lock) -> bool
 }
 
 // A reading is finite, however large.
+#[tactic(auto, unfolding(engine_spec::specs::Refusals::valid_milestone))]
 fn is_valid_milestone(m: Milestone) -> bool
     ensures { result ≡ valid_milestone m }
 {
@@ -102,6 +107,7 @@ fn is_valid_milestone(m: Milestone) -> bool
 }
 
 // All three.
+#[tactic(auto, unfolding(engine_spec::specs::Refusals::valid_milestones))]
 fn are_valid_milestones(m: Milestones) -> bool
     ensures { result ≡ valid_milestones m }
 {
@@ -112,6 +118,7 @@ fn are_valid_milestones(m: Milestones) -> bool
 }
 
 // The last computed window's endpoint.
+#[tactic(auto, unfolding(engine_spec::specs::Refusals::valid_endpoint))]
 fn is_valid_endpoint(e: Endpoint) -> bool
     ensures { result ≡ valid_endpoint e }
 {
@@ -122,6 +129,7 @@ fn is_valid_endpoint(e: Endpoint) -> bool
 }
 
 // All three numbers of an estimate.
+#[tactic(auto, unfolding(engine_spec::specs::Refusals::valid_estimate))]
 fn is_valid_estimate(e: Estimate) -> bool
     ensures { result ≡ valid_estimate e }
 {
@@ -153,6 +161,7 @@ fn milestones_shown(s: Snapshot) -> Milestones
 }
 
 // At most 8 candidates, and an estimate and milestones that a state may hold.
+#[tactic(auto, unfolding(engine_spec::specs::Refusals::valid_snapshot))]
 fn is_valid_snapshot(s: Snapshot) -> bool
     ensures { result ≡ valid_snapshot s }
 {
@@ -163,6 +172,7 @@ fn is_valid_snapshot(s: Snapshot) -> bool
 }
 
 // Where there is no last snapshot, nothing is asked of one.
+#[tactic(auto, unfolding(engine_spec::specs::Refusals::valid_last))]
 fn is_valid_last(l: Last) -> bool
     ensures { result ≡ valid_last l }
 {
@@ -172,6 +182,7 @@ fn is_valid_last(l: Last) -> bool
 }
 
 // 7: everything that a state holds.
+#[tactic(auto, unfolding(engine_spec::specs::Refusals::valid_engine))]
 pub fn is_valid_engine(e: Engine) -> bool
     ensures { result ≡ valid_engine e }
 {

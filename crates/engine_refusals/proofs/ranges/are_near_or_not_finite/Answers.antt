@@ -1,18 +1,11 @@
-use native.Mathlib.Omega.{arith}
+-- `engine_refusals::ranges::are_near_or_not_finite` meets its contract. Assumes nothing.
+use Rattle.std.proofs.Common.{rules, tests}
+use Rattle.std.proofs.lemmas.Iterator.{YieldsList-from_slice}
+use Rattle.std.proofs.lemmas.Iterator.Search.{all_from_yields_List}
 use Rattle.engine_spec.specs.Refusals.{near_or_not_finite}
-use Rattle.engine_refusals.proofs.ScanLaws.{passed_none, passed_more, one_fails, all_pass}
+use Rattle.numbers_spec.proofs.EveryLaws.{every_is_all}
 use Rattle.engine_refusals.proofs.ranges.are_near_or_not_finite.Goals as goal
 
-pub loop-i-init : goal.loop-i-init
-loop-i-init c = passed_none near_or_not_finite c.args.times.now
-
-pub returns-then-not-is_near_or_not_finite : goal.returns-then-not-is_near_or_not_finite
-returns-then-not-is_near_or_not_finite c =
-    one_fails near_or_not_finite c.args.times.now c.loop-i.i (omega arith) c.is_near_or_not_finite.ensures c.if-not-is_near_or_not_finite.true-raw
-
-pub loop-i-preserved : goal.loop-i-preserved
-loop-i-preserved c =
-    passed_more near_or_not_finite c.args.times.now c.loop-i.i c.loop-i.invariant (omega arith) c.is_near_or_not_finite.ensures c.if-not-is_near_or_not_finite.false-raw
-
 pub returns : goal.returns
-returns c = all_pass near_or_not_finite c.args.times.now c.loop-i.i c.loop-i.invariant (omega arith)
+returns c =
+    rw every_is_all (all_from_yields_List near_or_not_finite _ _ _ c.all.ensures.ran (YieldsList-from_slice c.args.times.now cc) (λ x b q k. search (rules, tests)))

@@ -1,18 +1,11 @@
-use native.Mathlib.Omega.{arith}
+-- `engine_refusals::ranges::are_valid_energies` meets its contract. Assumes nothing.
+use Rattle.std.proofs.Common.{rules, tests}
+use Rattle.std.proofs.lemmas.Iterator.{YieldsList-from_slice}
+use Rattle.std.proofs.lemmas.Iterator.Search.{all_from_yields_List}
 use Rattle.engine_spec.specs.Refusals.{valid_energy}
-use Rattle.engine_refusals.proofs.ScanLaws.{passed_none, passed_more, one_fails, all_pass}
+use Rattle.numbers_spec.proofs.EveryLaws.{every_is_all}
 use Rattle.engine_refusals.proofs.ranges.are_valid_energies.Goals as goal
 
-pub loop-i-init : goal.loop-i-init
-loop-i-init c = passed_none valid_energy c.args.energies.now
-
-pub returns-then-not-is_valid_energy : goal.returns-then-not-is_valid_energy
-returns-then-not-is_valid_energy c =
-    one_fails valid_energy c.args.energies.now c.loop-i.i (omega arith) c.is_valid_energy.ensures c.if-not-is_valid_energy.true-raw
-
-pub loop-i-preserved : goal.loop-i-preserved
-loop-i-preserved c =
-    passed_more valid_energy c.args.energies.now c.loop-i.i c.loop-i.invariant (omega arith) c.is_valid_energy.ensures c.if-not-is_valid_energy.false-raw
-
 pub returns : goal.returns
-returns c = all_pass valid_energy c.args.energies.now c.loop-i.i c.loop-i.invariant (omega arith)
+returns c =
+    rw every_is_all (all_from_yields_List valid_energy _ _ _ c.all.ensures.ran (YieldsList-from_slice c.args.energies.now cc) (λ x b q k. search (rules, tests)))
