@@ -7,7 +7,7 @@ ghost use Rattle.numbers_spec.specs.Arithmetic.{least};
 ghost use Rattle.engine_lock.specs.Views.{searched_in, tracked_in};
 
 use crate::kinds::{Searched, Tracked};
-use crate::track::{best_of, is_same_place};
+use crate::track::is_same_place;
 use engine_spec::thresholds::{
     CHAIN_MS, CHAIN_RECENT, PASSING_CORRELATION, PASSING_HALF, PASSING_MARGIN, SAME_PLACE_MS,
     SEARCH_INTERVAL_MS, STALE_MS, SUPPORTED_INTERVAL_MS,
@@ -36,10 +36,11 @@ fn least(x: f64, y: f64) -> f64
 
 // Whether a whole search passes, by its best candidate and its margin. Both halves have to reach
 // 0.10, tested by the lesser of them, as the Rust does.
-pub fn is_passing(found: &MatchResult) -> bool
-    ensures { result ≡ passing found.now.items }
+#[tactic(auto, unfolding(engine_spec::specs::Locking::passing))]
+pub fn is_passing(found: &[Candidate]) -> bool
+    ensures { result ≡ passing found.now }
 {
-    let Some(best) = best_of(found) else {
+    let [best, ..] = found else {
         return false;
     };
     (best.score >= PASSING_CORRELATION)
@@ -56,6 +57,7 @@ fn is_current(now: RecordedMs, last: RecordedMs) -> bool
 
 // A passing search carries pending on, with its first evidence, where that is current and at the
 // same place. Otherwise it starts anew.
+#[tactic(auto, unfolding(engine_spec::specs::Locking::first_evidence))]
 fn first_evidence(pending: Option<Hypothesis>, offset: f64, now: RecordedMs) -> RecordedMs
     ensures { result ≡ first_evidence pending offset now }
 {
@@ -71,10 +73,11 @@ fn first_evidence(pending: Option<Hypothesis>, offset: f64, now: RecordedMs) -> 
 
 // A search that does not pass holds pending where its best is at the same place, unambiguous, and
 // pending current.
-fn holds(offset: f64, last: RecordedMs, found: &MatchResult, now: RecordedMs) -> bool
-    ensures { result ≡ holds offset last found.now.items now }
+#[tactic(auto, unfolding(engine_spec::specs::Locking::holds))]
+fn holds(offset: f64, last: RecordedMs, found: &[Candidate], now: RecordedMs) -> bool
+    ensures { result ≡ holds offset last found.now now }
 {
-    let Some(best) = best_of(found) else {
+    let [best, ..] = found else {
         return false;
     };
     is_same_place(best.offset_ms, offset)
@@ -82,17 +85,19 @@ fn holds(offset: f64, last: RecordedMs, found: &MatchResult, now: RecordedMs) ->
 }
 
 // Pending after a search that does not pass.
+#[tactic(auto, unfolding(engine_spec::specs::Locking::held_or_dropped))]
 fn held_or_dropped(
     pending: Option<Hypothesis>,
-    found: &MatchResult,
+    found: &[Candidate],
     now: RecordedMs,
 ) -> Option<Hypothesis>
-    ensures { result ≡ held_or_dropped pending found.now.items now }
+    ensures { result ≡ held_or_dropped pending found.now now }
 {
     pending.filter(|held| holds(held.offset_ms, held.last_evidence_ms, found, now))
 }
 
 // The end of a chain: 1,000 less a hop of fresh evidence, and recent support.
+#[tactic(auto, unfolding(engine_spec::specs::Locking::confirms))]
 fn confirms(hop: f64, first: RecordedMs, now: RecordedMs, best: Candidate) -> bool
     ensures { result ≡ confirms hop first now best }
 {
@@ -101,6 +106,7 @@ fn confirms(hop: f64, first: RecordedMs, now: RecordedMs, best: Candidate) -> bo
 
 // The track at the end of a chain: kept where the window supports it at the chain's place, else
 // begun there.
+#[tactic(auto, unfolding(engine_spec::specs::Locking::kept_or_replaced))]
 fn kept_or_replaced(
     accepted: Option<Hypothesis>,
     supported: bool,
@@ -149,6 +155,7 @@ fn after_chain(k: Reached) -> Reached
 
 // What a whole search leaves that passed, of a window with this evidence time and endpoint. `first` is
 // the first evidence of pending.
+#[tactic(auto, unfolding(engine_spec::specs::Locking::passed))]
 fn passed(
     hop: f64,
     now: RecordedMs,
@@ -181,7 +188,11 @@ fn passed(
             accepted,
             last_global_search_ms: endpoint,
         },
-        reached: if ends { after_chain(reached) } else { after_passing(reached) },
+        reached: if ends {
+            after_chain(reached)
+        } else {
+            after_passing(reached)
+        },
         global: true,
         found,
         supported: ends | t.supported,
@@ -216,6 +227,7 @@ fn not_passed(
 }
 
 // What a whole search leaves that found these.
+#[tactic(auto, unfolding(engine_spec::specs::Locking::whole_searched))]
 pub fn whole_searched(
     hop: f64,
     now: RecordedMs,
@@ -228,12 +240,13 @@ pub fn whole_searched(
     ensures result_value { searched_in result ≡ whole_searched hop now endpoint reached pending (tracked_in t) found.items }
     ensures found_value { result.found ≡ found }
 {
+    let best = match found.as_slice() {
+        [best, ..] => *best,
+        [] => return not_passed(now, endpoint, reached, pending, t, found),
+    };
     if !is_passing(&found) {
         return not_passed(now, endpoint, reached, pending, t, found);
     }
-    let Some(best) = best_of(&found) else {
-        return not_passed(now, endpoint, reached, pending, t, found);
-    };
     let first = first_evidence(pending, best.offset_ms, now);
     passed(hop, now, endpoint, reached, first, t, best, found)
 }

@@ -1,5 +1,5 @@
 // The track and what a local search does to it.
-ghost use Rattle.std.specs.Prelude.{◌∷◌, ◌≡◌, [], drop, IfSome, IfNone};
+ghost use Rattle.std.specs.Prelude.{◌≡◌};
 ghost use Rattle.engine_spec.specs.Windows.{evidence_at, same_place};
 ghost use Rattle.engine_spec.specs.Tracking.{followed, gain, may_coast, moved_offset, supports, unsupported};
 ghost use Rattle.engine_lock.specs.Views.{tracked_in};
@@ -58,14 +58,6 @@ fn moved_offset(offset: f64, best: Candidate, dt: f64) -> f64
     offset + gain(dt) * (best.offset_ms - offset)
 }
 
-// The best candidate of a result, where it has one.
-pub fn best_of(found: &MatchResult) -> Option<Candidate>
-    ensures some { IfSome result (λ best. found.now.items ≡ best ∷ drop 1 found.now.items) }
-    ensures none { IfNone result (found.now.items ≡ []) }
-{
-    found.as_slice().first().copied()
-}
-
 // No support: the track as it was, or none.
 pub fn unsupported(track: Option<Hypothesis>, found: MatchResult) -> Tracked
     ensures result_value { tracked_in result ≡ unsupported track found.items }
@@ -80,12 +72,14 @@ pub fn unsupported(track: Option<Hypothesis>, found: MatchResult) -> Tracked
 }
 
 // The track after the best of what a local search found.
+#[tactic(auto, unfolding(engine_spec::specs::Tracking::followed))]
 pub fn followed(track: Hypothesis, now: RecordedMs, found: MatchResult) -> Tracked
     ensures result_value { tracked_in result ≡ followed track now found.items }
     ensures found_value { result.found ≡ found }
 {
-    let Some(best) = best_of(&found) else {
-        return unsupported(Some(track), found);
+    let best = match found.as_slice() {
+        [best, ..] => *best,
+        [] => return unsupported(Some(track), found),
     };
     if !supports(track.offset_ms, best) {
         return unsupported(Some(track), found);
