@@ -8,6 +8,7 @@ use lib.Dec.{T, T_not, ltb, leb-zero, leb-suc-suc}
 use lib.ListN.{length, get_or}
 use lib.Ieee.{Float, nan, inf, fin, binary64, neg, le, lt, eq, is_nan, of_bits}
 use lib.Ieee.Scale.{finite}
+use Rattle.std.specs.Prelude.{Option, None, Some, is_none}
 use Rattle.numbers_spec.specs.Arithmetic.{◌⊕◌, ◌⊖◌, zero⁺, absolute}
 use Rattle.numbers_spec.specs.Values.{Number}
 use Rattle.numbers_spec.proofs.Order.{not-lt→le}
@@ -19,12 +20,12 @@ use Rattle.matcher_spec.specs.Search.{whole_search, local_search}
 use Rattle.engine_spec.specs.Thresholds.{coast_most_ms, local_ms, same_place_ms}
 use Rattle.engine_spec.specs.Windows.{Window, indexed, query, endpoint_of, evidence, ◌after◌, same_place}
 use Rattle.engine_spec.specs.Opening.{blank_candidate}
-use Rattle.engine_spec.specs.Tracking.{Tracked, tracked, followed, supports, may_coast}
+use Rattle.engine_spec.specs.Tracking.{hypothesis, Tracked, tracked, followed, supports, may_coast}
 use Rattle.engine_spec.specs.Locking.{Searched, searched, is_due, whole_searched, locally_searched, passed, passing, confirms, first_evidence, kept_or_replaced}
-use Rattle.engine_spec.specs.Publishing.{Decision, publish, estimate_at, off_track, ready, unready, verdict_of, ambiguous, candidates_shown, candidate_array, comparable_frames, coverage}
+use Rattle.engine_spec.specs.Publishing.{Decision, publish, estimate_at, off_track, ready, unready, verdict_of, candidates_shown, candidate_array, comparable_frames, coverage}
 use Rattle.engine_spec.specs.Chain.{best_offset, offset_shown}
 use Rattle.engine_spec.specs.Guarantee.{Shows}
-use Rattle.engine_spec.specs.Cases.{is_none, interrupting, unreachable}
+use Rattle.engine_spec.specs.Cases.{interrupting, unreachable}
 use Rattle.engine_spec.specs.declared.types.Reached.{Reached}
 use Rattle.engine_spec.specs.declared.types.Verdict.{Verdict}
 use Rattle.engine_spec.specs.declared.types.RecordedMs.{RecordedMs}
@@ -33,10 +34,7 @@ use Rattle.engine_spec.specs.declared.types.Settings.{Settings}
 use Rattle.engine_spec.specs.declared.types.Lock.{Lock}
 use Rattle.engine_spec.specs.declared.types.Milestones.{Milestones}
 use Rattle.engine_spec.specs.declared.types.Snapshot.{Snapshot}
-use Rattle.engine_spec.specs.declared.types.Maybe.{Maybe}
-use Rattle.engine_spec.specs.declared.types.Maybe.TheVariants as maybe
 use Rattle.engine_spec.specs.declared.types.Hypothesis.{Hypothesis}
-use Rattle.engine_spec.specs.declared.types.Hypothesis.TheVariants as hypothesis
 use Rattle.engine_spec.specs.declared.types.State.TheVariants as state
 use Rattle.engine_spec.specs.declared.types.WithholdReason.{WithholdReason}
 use Rattle.engine_spec.specs.declared.types.WithholdReason.TheVariants as reason
@@ -45,37 +43,37 @@ use Rattle.engine_spec.proofs.Effects.{is_held, Track, gone, set, kept, Ended, e
 
 -- ---- the track
 -- A local search leaves the old track, or one with this evidence,
-followed_track : (lock : Bool) (offset : Float) (first last : RecordedMs) (c : Float) (now : RecordedMs) (found : List Candidate) → T (may_coast now last)
-    → let t = followed offset first last c now found in Track now lock (hypothesis.Held offset first last c) t.accepted t.supported
+followed_track : (lock : Bool) (old : Hypothesis) (now : RecordedMs) (found : List Candidate) → T (may_coast now old.last_evidence_ms)
+    → let t = followed old now found in Track now lock (Some old) t.accepted t.supported
 unfolding followed
-followed_track lock offset first last c now [] h = kept h
-followed_track lock offset first last c now (best ∷ rest) h =
-    cond_elim (λ (t : Tracked). Track now lock (hypothesis.Held offset first last c) t.accepted t.supported) (supports offset best) _ _
+followed_track lock old now [] h = kept h
+followed_track lock old now (best ∷ rest) h =
+    cond_elim (λ (t : Tracked). Track now lock (Some old) t.accepted t.supported) (supports old.offset_ms best) _ _
     (λ s. set refl (inr tt)) (λ s. kept h)
 
 -- or none, where the track may not coast on.
-tracked_track : (lock : Bool) (m : Matcher) (q : Features) (now : RecordedMs) (h : Hypothesis)
+tracked_track : (lock : Bool) (m : Matcher) (q : Features) (now : RecordedMs) (h : Option Hypothesis)
     → let t = tracked m q now h in Track now lock h t.accepted t.supported
 unfolding tracked
-tracked_track lock m q now hypothesis.Absent = gone
-tracked_track lock m q now (hypothesis.Held offset first last c) =
-    cond_elim (λ (t : Tracked). Track now lock (hypothesis.Held offset first last c) t.accepted t.supported) (may_coast now last) _ _
-    (λ h. followed_track lock offset first last c now (local_search m.reference m.fine q (offset ⊖ local_ms) (offset ⊕ local_ms)) h) (λ h. gone)
+tracked_track lock m q now None = gone
+tracked_track lock m q now (Some old) =
+    cond_elim (λ (t : Tracked). Track now lock (Some old) t.accepted t.supported) (may_coast now old.last_evidence_ms) _ _
+    (λ h. followed_track lock old now (local_search m.reference m.fine q (old.offset_ms ⊖ local_ms) (old.offset_ms ⊕ local_ms)) h) (λ h. gone)
 
 -- The end of a chain keeps a track only where the window supports it at the best's place.
-pub kept_or_begun : (G : Hypothesis → Type 0) (o : Float) (f l : RecordedMs) (c : Float) (supported : Bool) (best : Candidate) (now : RecordedMs) → G (hypothesis.Held best.offset_ms now now best.score)
-    → (T (not (lt same_place_ms (absolute (o ⊖ best.offset_ms)))) → T supported → G (hypothesis.Held o f l c)) → G (kept_or_replaced (hypothesis.Held o f l c) supported best now)
+pub kept_or_begun : (G : Option Hypothesis → Type 0) (t : Hypothesis) (supported : Bool) (best : Candidate) (now : RecordedMs) → G (Some (hypothesis best.offset_ms now now best.score))
+    → (T (not (lt same_place_ms (absolute (t.offset_ms ⊖ best.offset_ms)))) → T supported → G (Some t)) → G (kept_or_replaced (Some t) supported best now)
 unfolding kept_or_replaced
-kept_or_begun G o f l c supported best now x y =
-    let far = lt same_place_ms (absolute (o ⊖ best.offset_ms)) in
+kept_or_begun G t supported best now x y =
+    let far = lt same_place_ms (absolute (t.offset_ms ⊖ best.offset_ms)) in
     cond_elim G (far || not supported) _ _ (λ t. x) (λ t. y (not_or_l far (not supported) t) (not_not supported (not_or_r far (not supported) t)))
 
 -- So it leaves one with this evidence,
-replaced_track : (now : RecordedMs) {h a : Hypothesis} {supported : Bool} (best : Candidate) → Track now true h a supported → Track now true h (kept_or_replaced a supported best now) true
+replaced_track : (now : RecordedMs) {h a : Option Hypothesis} {supported : Bool} (best : Candidate) → Track now true h a supported → Track now true h (kept_or_replaced a supported best now) true
 unfolding kept_or_replaced
 replaced_track now best gone = set refl (inl tt)
-replaced_track now {h = h} best (set {o = o} {f = f} {l = l} {c = c} e u) = kept_or_begun (λ (t : Hypothesis). Track now true h t true) o f l c true best now (set refl (inl tt)) (λ x y. set e (inl tt))
-replaced_track now {h = h} best (kept {o = o} {f = f} {l = l} {c = c} u) = kept_or_begun (λ (t : Hypothesis). Track now true h t true) o f l c false best now (set refl (inl tt)) (λ x y. absurd y)
+replaced_track now {h = h} best (set {t = t} e u) = kept_or_begun (λ (t : Option Hypothesis). Track now true h t true) t true best now (set refl (inl tt)) (λ x y. set e (inl tt))
+replaced_track now {h = h} best (kept {t = t} u) = kept_or_begun (λ (t : Option Hypothesis). Track now true h t true) t false best now (set refl (inl tt)) (λ x y. absurd y)
 
 -- and at the best's place.
 same_self : (x : Float) → T (finite x) → T (same_place x x)
@@ -94,14 +92,14 @@ not_apart x y f g h =
     not-lt→le same_place_ms (absolute (x ⊖ y)) (unfold is_nan of_bits in tt)
     (cond_elim Number (lt (x ⊖ y) zero⁺) (neg (x ⊖ y)) (x ⊖ y) (λ _. neg_number (x ⊖ y) d) (λ _. d)) h
 
-replaced_place : (now : RecordedMs) {lock : Bool} {h a : Hypothesis} {supported : Bool} (best : Candidate) (rest : List Candidate) → Track now lock h a supported → FiniteTrack a → T (finite best.offset_ms)
+replaced_place : (now : RecordedMs) {lock : Bool} {h a : Option Hypothesis} {supported : Bool} (best : Candidate) (rest : List Candidate) → Track now lock h a supported → FiniteTrack a → T (finite best.offset_ms)
     → Ended now (kept_or_replaced a supported best now) true (best ∷ rest)
 unfolding kept_or_replaced
 replaced_place now best rest gone t p = ended refl (same_self best.offset_ms p)
-replaced_place now best rest (set {o = o} {f = f} {l = l} {c = c} e u) t p =
-    kept_or_begun (λ (a : Hypothesis). Ended now a true (best ∷ rest)) o f l c true best now (ended refl (same_self best.offset_ms p)) (λ x y. ended e (not_apart o best.offset_ms t p x))
-replaced_place now best rest (kept {o = o} {f = f} {l = l} {c = c} u) t p =
-    kept_or_begun (λ (a : Hypothesis). Ended now a true (best ∷ rest)) o f l c false best now (ended refl (same_self best.offset_ms p)) (λ x y. absurd y)
+replaced_place now best rest (set {t = t} e u) f p =
+    kept_or_begun (λ (a : Option Hypothesis). Ended now a true (best ∷ rest)) t true best now (ended refl (same_self best.offset_ms p)) (λ x y. ended e (not_apart t.offset_ms best.offset_ms f p x))
+replaced_place now best rest (kept {t = t} u) f p =
+    kept_or_begun (λ (a : Option Hypothesis). Ended now a true (best ∷ rest)) t false best now (ended refl (same_self best.offset_ms p)) (λ x y. absurd y)
 
 -- ---- the searches of one window
 module _ (m : Matcher) (hop : Float) (w : Window) (k : Reached) (l : Lock) (O : Offsets m (query w) (evidence hop w) l.accepted) where
@@ -164,7 +162,7 @@ effects granted m hop w k l O =
 
 -- ---- what is shown of a search
 -- The first of the array is the best of what was found.
-best_shown : (n : ℕ) (r : Float) (found : List Candidate) → cond (ltb 0 (length found)) (maybe.Is (get_or (candidate_array n r found) 0 blank_candidate).offset_ms) maybe.Absent ≡ best_offset_of found
+best_shown : (n : ℕ) (r : Float) (found : List Candidate) → cond (ltb 0 (length found)) (Some (get_or (candidate_array n r found) 0 blank_candidate).offset_ms) None ≡ best_offset_of found
 unfolding candidates_shown
 best_shown n r [] = refl
 best_shown n r (c ∷ l) = rw (leb-suc-suc 0 (length l), leb-zero (length l))
@@ -194,12 +192,12 @@ usual_quiet true false = refl
 usual_quiet false confirmed = refl
 
 -- What its snapshot shows.
-pub silenced : (c : Configuration) (hop : Float) (s : Settings) (w : Window) (k : Reached) (l : Lock) (r : WithholdReason) (ms : Milestones) → T (not (is_none r)) → Silence (publish c hop w (unready s k l r) ms)
+pub silenced : (c : Configuration) (hop : Float) (s : Settings) (w : Window) (k : Reached) (l : Lock) (r : WithholdReason) (ms : Milestones) → Silence (publish c hop w (unready s k l r) ms)
 unfolding publish
-silenced c hop s w k l r ms h = record {
+silenced c hop s w k l r ms = record {
   shown = found_shown c hop w (unready s k l r) ms;
   quiet = quiet_state (indexed s) k.confirmed;
-  withheld = h;
+  withheld = tt;
   placeless = λ t. t;
   usual = usual_quiet (indexed s) k.confirmed;
 }
@@ -225,13 +223,7 @@ unfolding unreachable
 usual_on true h = refl
 usual_on false h = absurd h
 
-withheld_off : (ambiguous : Bool) → is_none (cond ambiguous reason.AmbiguousOffset reason.WeakAlignmentPeak) ≡ false
-unfolding is_none
-withheld_off true = refl
-withheld_off false = refl
-
-withheld_on : (supported : Bool) → is_none (cond supported reason.None reason.WeakAlignmentPeak) ≡ supported
-unfolding is_none
+withheld_on : (supported : Bool) → is_none (cond supported None (Some reason.WeakAlignmentPeak)) ≡ supported
 withheld_on true = refl
 withheld_on false = refl
 
@@ -244,49 +236,50 @@ now_coasts : (now last : RecordedMs) → T (finite now.0) → last ≡ now → T
 now_coasts now last f e = subst (λ (x : Float). T (le x coast_most_ms)) (sym (ap (λ (x : RecordedMs). now after x) e ∙ sub_self binary64 now.0 f)) zero_coasts
 
 -- The place shown is the offset that is decided.
-place_shown : (t : RecordedMs) (o : Maybe) → offset_shown (estimate_at t o) ≡ o
-place_shown t maybe.Absent = refl
-place_shown t (maybe.Is o) = refl
+place_shown : (t : RecordedMs) (o : Option Float) → offset_shown (estimate_at t o) ≡ o
+place_shown t None = refl
+place_shown t (Some o) = refl
 
 -- ---- a window that was searched, by the track a that its searches x left
 module _ (x : Searched) (now : RecordedMs) where
-  loud : (a : Hypothesis) → T (not (interrupting (verdict_of a now x).state))
+  loud : (a : Option Hypothesis) → T (not (interrupting (verdict_of a now x).state))
   unfolding verdict_of
-  loud hypothesis.Absent = loud_off x.reached.confirmed
-  loud (hypothesis.Held offset first last c) =
-      cond_elim (λ (v : Verdict). T (not (interrupting v.state))) (may_coast now last) _ _ (λ h. loud_on x.reached.final_lock) (λ h. loud_off x.reached.confirmed)
+  loud None = loud_off x.reached.confirmed
+  loud (Some t) =
+      cond_elim (λ (v : Verdict). T (not (interrupting v.state))) (may_coast now t.last_evidence_ms) _ _ (λ h. loud_on x.reached.final_lock) (λ h. loud_off x.reached.confirmed)
 
-  usual : (a : Hypothesis) → (T (is_held a) → T x.reached.final_lock) → unreachable (verdict_of a now x).state ≡ false
+  usual : (a : Option Hypothesis) → (T (is_held a) → T x.reached.final_lock) → unreachable (verdict_of a now x).state ≡ false
   unfolding verdict_of
-  usual hypothesis.Absent f = usual_off x.reached.confirmed
-  usual (hypothesis.Held offset first last c) f =
-      cond_elim (λ (v : Verdict). unreachable v.state ≡ false) (may_coast now last) _ _ (λ h. usual_on x.reached.final_lock (f tt)) (λ h. usual_off x.reached.confirmed)
+  usual None f = usual_off x.reached.confirmed
+  usual (Some t) f =
+      cond_elim (λ (v : Verdict). unreachable v.state ≡ false) (may_coast now t.last_evidence_ms) _ _ (λ h. usual_on x.reached.final_lock (f tt)) (λ h. usual_off x.reached.confirmed)
 
   -- A reason is shown exactly where the window supports no track: a supported one has this evidence, hence may coast.
-  reasoned : {lock : Bool} {before a : Hypothesis} {supported : Bool} → x.supported ≡ supported → T (finite now.0) → Track now lock before a supported → is_none (verdict_of a now x).reason ≡ supported
+  reasoned : {lock : Bool} {before a : Option Hypothesis} {supported : Bool} → x.supported ≡ supported → T (finite now.0) → Track now lock before a supported → is_none (verdict_of a now x).reason ≡ supported
   unfolding verdict_of
-  reasoned e f gone = withheld_off (ambiguous x.found)
-  reasoned e f (set {l = l} h u) =
+  reasoned e f gone = refl
+  reasoned e f (set {t = t} h u) =
+      let l = t.last_evidence_ms in
       cond_elim (λ (v : Verdict). is_none v.reason ≡ true) (may_coast now l) _ _ (λ y. withheld_on x.supported ∙ e) (λ y. absurd (T_not (may_coast now l) y (now_coasts now l f h)))
-  reasoned e f (kept {l = l} h) =
-      cond_elim (λ (v : Verdict). is_none v.reason ≡ false) (may_coast now l) _ _ (λ y. withheld_on x.supported ∙ e) (λ y. withheld_off (ambiguous x.found))
+  reasoned e f (kept {t = t} h) =
+      cond_elim (λ (v : Verdict). is_none v.reason ≡ false) (may_coast now t.last_evidence_ms) _ _ (λ y. withheld_on x.supported ∙ e) (λ y. refl)
 
   -- The snapshot is on the track, which may coast.
   module _ (c : Configuration) (hop : Float) (w : Window) (ms : Milestones) where
     abbrev shown_with : Verdict → Snapshot
     shown_with v = publish c hop w (record { lock = x.lock; reached = x.reached; global = x.global; found = x.found; verdict = v }) ms
 
-    on_shown : (o : Float) (f l : RecordedMs) (r : Float) → T (may_coast now l) → TrackShown (shown_with (verdict_of (hypothesis.Held o f l r) now x)) now x (hypothesis.Held o f l r)
+    on_shown : (t : Hypothesis) → T (may_coast now t.last_evidence_ms) → TrackShown (shown_with (verdict_of (Some t) now x)) now x (Some t)
     unfolding verdict_of publish
-    on_shown o f l r h =
-        cond_elim (λ (v : Verdict). TrackShown (shown_with v) now x (hypothesis.Held o f l r)) (may_coast now l) _ _
-        (λ t. on (record { state = refl; place = refl; coast = refl; within = t })) (λ t. absurd (T_not (may_coast now l) t h))
+    on_shown t h =
+        cond_elim (λ (v : Verdict). TrackShown (shown_with v) now x (Some t)) (may_coast now t.last_evidence_ms) _ _
+        (λ c. on (record { state = refl; place = refl; coast = refl; within = c })) (λ c. absurd (T_not (may_coast now t.last_evidence_ms) c h))
 
-    shown_track : {lock : Bool} {before a : Hypothesis} {supported : Bool} → T (finite now.0) → Track now lock before a supported → TrackShown (shown_with (verdict_of a now x)) now x a
+    shown_track : {lock : Bool} {before a : Option Hypothesis} {supported : Bool} → T (finite now.0) → Track now lock before a supported → TrackShown (shown_with (verdict_of a now x)) now x a
     unfolding verdict_of publish
     shown_track f gone = off (record { state = refl; place = place_shown (endpoint_of w) (off_track x).offset })
-    shown_track f (set {o = o} {f = g} {l = l} {c = r} e u) = on_shown o g l r (now_coasts now l f e)
-    shown_track f (kept {o = o} {f = g} {l = l} {c = r} h) = on_shown o g l r h
+    shown_track f (set {t = t} e u) = on_shown t (now_coasts now t.last_evidence_ms f e)
+    shown_track f (kept {t = t} h) = on_shown t h
 
 -- What the snapshot of a searched window shows.
 pub viewed : (c : Configuration) (hop : Float) (w : Window) (se : Searched) (l : Lock) (ms : Milestones) → T (finite (evidence hop w).0) → (lock : Bool)

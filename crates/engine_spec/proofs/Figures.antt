@@ -1,13 +1,17 @@
 -- The figures P1 to P12 follow from the definitions, by computation. Assumes nothing.
 use mathlib.Core.Bool.{Bool, true, false, not, ◌||◌}
-use mathlib.Core.Path.{◌≡◌, refl}
+use mathlib.Core.Path.{◌≡◌, refl, subst}
+use lib.Dec.{T}
 use lib.Ieee.{binary64, round, units, size, add, sub, mul, div, neg, of_bits, to_unsigned, lt, le}
+use Rattle.std.specs.Prelude.{Option, None, Some}
 use Rattle.numbers_spec.specs.Whole.{whole_nearest}
 use Rattle.numbers_spec.proofs.Figures as number
 use Rattle.matcher_spec.specs.Centring.{context_frames, radius}
 use Rattle.matcher_spec.proofs.Figures as matcher
 use Rattle.engine_spec.specs.Windows.{indexed, endpoint_of, evidence_at, jumps_from, rereads_from}
 use Rattle.engine_spec.specs.Thresholds.{reread_ms}
+use Rattle.engine_spec.specs.Refusals.{refuses}
+use Rattle.engine_spec.specs.declared.types.Refusal.{Refusal}
 use Rattle.engine_spec.specs.Submitting.{submit, reread, computed_from, answered_from}
 use Rattle.engine_spec.specs.Figures.{P1, P2, P4, P6, Figures, ms10000, ms10089, ms10090, p1, p2, p3, p4, p5, p6, p7, p8, p9, p10, p11, p12}
 
@@ -24,11 +28,15 @@ or_true : (b : Bool) → b || true ≡ true
 or_true true = refl
 or_true false = refl
 
+not_refused : (r : Option Refusal) → refuses r ≡ false → r ≡ None
+not_refused None h = refl
+not_refused (Some r) h = absurd (subst (λ (b : Bool). T b) h tt)
+
 figure_1 : P1
 unfolding submit answered_from rereads_from reread computed_from
 figure_1 = record {
-  rereads = λ e i g h. rw (g.answered, g.last, g.snapshot, g.accepted, g.hop, g.no_jump, h, soon_10089, or_true (not (indexed e.settings))) refl;
-  computes = λ e i g h. rw (g.answered, g.last, g.snapshot, g.hop, g.no_jump, h, late_10090) refl;
+  rereads = λ e i g h. rw (not_refused _ g.answered, g.last, g.snapshot, g.accepted, g.hop, g.no_jump, h, soon_10089, or_true (not (indexed e.settings))) refl;
+  computes = λ e i g h. rw (not_refused _ g.answered, g.last, g.snapshot, g.hop, g.no_jump, h, late_10090) refl;
 }
 
 figure_2 : P2

@@ -10,6 +10,7 @@ use lib.Count.{count_trailing_zeros}
 use lib.ListN.{length, get_or, replicate}
 use lib.Ieee.{Float, nan, binary64, le, lt, eq, add, mul, div, sum, of_int, of_bits, of_fields, odd, round, units, size, span, climb}
 use lib.Ieee.Scale.{finite}
+use Rattle.std.specs.Prelude.{Option, None, Some}
 use Rattle.numbers_spec.specs.Arithmetic.{◌⊕◌, ◌⊖◌, ◌⊗◌, ◌⊘◌, zero⁺, one, at_least, real, magnitude}
 use Rattle.numbers_spec.specs.Rows.{every}
 use Rattle.numbers_spec.specs.Values.{AtMost}
@@ -45,14 +46,8 @@ use Rattle.engine_spec.specs.declared.types.Configuration.{Configuration}
 use Rattle.engine_spec.specs.declared.types.Settings.{Settings}
 use Rattle.engine_spec.specs.declared.types.CandidateDiagnostics.{CandidateDiagnostics}
 use Rattle.engine_spec.specs.declared.types.Engine.{Engine}
-use Rattle.engine_spec.specs.declared.types.Maybe.{Maybe}
-use Rattle.engine_spec.specs.declared.types.Maybe.TheVariants as maybe
-use Rattle.engine_spec.specs.declared.types.Milestone.{Milestone}
-use Rattle.engine_spec.specs.declared.types.Milestone.TheVariants as milestone
 use Rattle.engine_spec.specs.declared.types.Estimate.{Estimate}
-use Rattle.engine_spec.specs.declared.types.Estimate.TheVariants as estimate
 use Rattle.engine_spec.specs.declared.types.Hypothesis.{Hypothesis}
-use Rattle.engine_spec.specs.declared.types.Hypothesis.TheVariants as hypothesis
 use Rattle.engine_spec.proofs.Tests.{cond_elim, and_l, and_r, T-is}
 use Rattle.engine_spec.proofs.EvidenceBound.{bounded, farthest_finite, track_most_finite}
 use Rattle.engine_spec.proofs.MovedBound.{since_finite}
@@ -69,15 +64,18 @@ modest_finite : (x : Float) → AtMost track_most x → Finite x
 modest_finite x h = at_most_finite track_most x track_most_finite h
 
 -- ---- what a valid state holds
-milestone_finite : (t : Milestone) → T (valid_milestone t) → FiniteMilestone t
+milestone_finite : (t : Option ClockMs) → T (valid_milestone t) → FiniteMilestone t
 unfolding valid_milestone
-milestone_finite milestone.Absent h = tt
-milestone_finite (milestone.At t) h = h
+milestone_finite None h = tt
+milestone_finite (Some t) h = h
 
-estimate_finite : (t : Estimate) → T (valid_estimate t) → FiniteEstimate t
+estimate_finite : (t : Option Estimate) → T (valid_estimate t) → FiniteEstimate t
 unfolding valid_estimate
-estimate_finite estimate.Absent h = tt
-estimate_finite (estimate.At recorded reference offset) h =
+estimate_finite None h = tt
+estimate_finite (Some e) h =
+    let recorded = e.query_endpoint_recorded_time_ms in
+    let reference = e.reference_time_ms in
+    let offset = e.offset_ms in
     let number : (x : Float) → T (track_number x) → Finite x = λ x t. modest_finite x (bounded track_most x (T-is (track_number x) t)) in
     let rest = and_r (track_number recorded.0) _ h in
     (number recorded.0 (and_l (track_number recorded.0) _ h), number reference.0 (and_l (track_number reference.0) _ rest), number offset (and_r (track_number reference.0) _ rest))
@@ -117,25 +115,25 @@ candidate_finite comparable covered f rest h (c ∷ l) r zero =
 candidate_finite comparable covered f rest h (c ∷ l) r (suc k) = candidate_finite comparable covered f rest h l (λ j u. r (suc j) (omega arith)) k
 
 -- ---- what the state carries
-fresh_finite : (h : Hypothesis) → Bounded h → Finite (fresh_evidence h)
+fresh_finite : (h : Option Hypothesis) → Bounded h → Finite (fresh_evidence h)
 unfolding fresh_evidence
-fresh_finite hypothesis.Absent h = tt
-fresh_finite (hypothesis.Held o f l c) (held O F L C) = since_finite (l after f) (after_finite l f L F)
+fresh_finite None h = tt
+fresh_finite (Some p) (held O F L C) = since_finite (p.last_evidence_ms after p.first_evidence_ms) (after_finite p.last_evidence_ms p.first_evidence_ms L F)
 
-track_modest : (h : Hypothesis) → Bounded h → AtMost track_most (track_correlation h)
-track_modest hypothesis.Absent h = zero_modest
-track_modest (hypothesis.Held o f l c) (held O F L C) = C
+track_modest : (h : Option Hypothesis) → Bounded h → AtMost track_most (track_correlation h)
+track_modest None h = zero_modest
+track_modest (Some t) (held O F L C) = C
 
-magnitude_of_lem : (x : Maybe) → FiniteMaybe x → FiniteMaybe (magnitude_of x)
+magnitude_of_lem : (x : Option Float) → FiniteMaybe x → FiniteMaybe (magnitude_of x)
 unfolding magnitude_of
-magnitude_of_lem maybe.Absent h = tt
-magnitude_of_lem (maybe.Is x) h = magnitude_finite x h
+magnitude_of_lem None h = tt
+magnitude_of_lem (Some x) h = magnitude_finite x h
 
 -- ---- confidence
-confidence_finite : (o : Maybe) (correlation coast : Float) → AtMost track_most correlation → AtMost coast_most_ms coast → Finite (confidence_of o correlation coast)
+confidence_finite : (o : Option Float) (correlation coast : Float) → AtMost track_most correlation → AtMost coast_most_ms coast → Finite (confidence_of o correlation coast)
 unfolding magnitude le lt eq mul add sum div round units size span climb of_bits of_fields odd count_trailing_zeros
-confidence_finite maybe.Absent correlation coast R C = tt
-confidence_finite (maybe.Is o) correlation coast R C =
+confidence_finite None correlation coast R C = tt
+confidence_finite (Some o) correlation coast R C =
     let part = coast ⊘ coast_most_ms in
     let partMost = coast_most_ms ⊘ coast_most_ms in
     let x = correlation ⊗ (one ⊖ part) in
@@ -205,7 +203,7 @@ module _ (w : Window) (some : 0 < length w.times) (short : length w.times ≤ wi
         candidates = λ j l. candidate_finite _ (coverage w) coverage_finite _ (blank_finite (candidates_most - length found)) found r.sound j;
         spectral = record {
           correlation = best_finite (λ c. c.score) (λ c m. m.score.at_most_lem) found r;
-          competing_peak_margin = cond_elim FiniteMaybe d.global (maybe.Is (margin_of found)) maybe.Absent (λ t. margin_finite found r) (λ t. tt);
+          competing_peak_margin = cond_elim FiniteMaybe d.global (Some (margin_of found)) None (λ t. margin_finite found r) (λ t. tt);
           first_half_correlation = best_finite (λ c. c.first_half_score) (λ c m. m.first_half.at_most_lem) found r;
           second_half_correlation = best_finite (λ c. c.second_half_score) (λ c m. m.second_half.at_most_lem) found r;
           recent_correlation = best_finite (λ c. c.recent_score) (λ c m. m.recent.at_most_lem) found r;

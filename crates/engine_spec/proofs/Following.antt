@@ -8,6 +8,7 @@ use native.Mathlib.Omega.{arith}
 use lib.Dec.{T}
 use lib.Ieee.{Float, binary64, lt, le}
 use lib.Ieee.Scale.{finite}
+use Rattle.std.specs.Prelude.{Option, None, Some, is_some, is_none}
 use Rattle.numbers_spec.specs.Arithmetic.{◌⊗◌, zero⁺, at_least}
 use Rattle.numbers_spec.proofs.Sums.{sub_self, sub_not_negative}
 use Rattle.matcher_spec.specs.Centring.{context_frames}
@@ -15,11 +16,10 @@ use Rattle.engine_spec.specs.Thresholds.{coast_most_ms, reread_ms}
 use Rattle.engine_spec.specs.Windows.{endpoint_of, evidence_at, ◌after◌}
 use Rattle.engine_spec.specs.Locking.{Searched}
 use Rattle.engine_spec.specs.Chain.{window_at, shown_at, spectral_at, when, jump_at, interrupts, EndsChain, OnChain, Coasts}
-use Rattle.engine_spec.specs.Cases.{is_none, interrupting, estimated}
+use Rattle.engine_spec.specs.Cases.{interrupting}
 use Rattle.engine_spec.specs.Lists.{Answered}
 use Rattle.engine_spec.specs.declared.types.RecordedMs.{RecordedMs}
 use Rattle.engine_spec.specs.declared.types.Hypothesis.{Hypothesis}
-use Rattle.engine_spec.specs.declared.types.Hypothesis.TheVariants as hypothesis
 use Rattle.engine_spec.specs.declared.types.State.TheVariants as state
 use Rattle.engine_spec.proofs.Tests.{not_or, not_or_l, below_or}
 use Rattle.engine_spec.proofs.Effects.{Track, gone, set, kept, OnTrack, TrackShown, off, on}
@@ -45,14 +45,14 @@ module _ (hop : Float) (a : ℕ → Answered) where
     pub since : (k : ℕ) → from < k → k < n → T (not (interrupts hop a k))
     pub last_is : last ≡ when hop a from
 
-  pub data Accepted (n : ℕ) : Hypothesis → Type 0 where
-    no_track : Accepted n hypothesis.Absent
-    on_track_lem : {o : Float} {f l : RecordedMs} {c : Float} → Follows n l → Accepted n (hypothesis.Held o f l c)
+  pub data Accepted (n : ℕ) : Option Hypothesis → Type 0 where
+    no_track : Accepted n None
+    on_track_lem : {t : Hypothesis} → Follows n t.last_evidence_ms → Accepted n (Some t)
 
   -- the track after answer n, where a jump at n may have ended it
-  pub data Tracked (n : ℕ) : Hypothesis → Type 0 where
-    no_more : Tracked n hypothesis.Absent
-    still : {o : Float} {f l : RecordedMs} {c : Float} → T (not (jump_at hop a n)) → Follows n l → Tracked n (hypothesis.Held o f l c)
+  pub data Tracked (n : ℕ) : Option Hypothesis → Type 0 where
+    no_more : Tracked n None
+    still : {t : Hypothesis} → T (not (jump_at hop a n)) → Follows n t.last_evidence_ms → Tracked n (Some t)
 
   -- ---- one answer further: without support,
   follows_up : (n : ℕ) (last : RecordedMs) → Follows n last → T (not (interrupts hop a n)) → T (not (is_none (shown_at hop a n).withhold_reason)) → Follows (suc n) last
@@ -85,20 +85,20 @@ module _ (hop : Float) (a : ℕ → Answered) where
     last_is = e;
   }
 
-  pub track_step : (n : ℕ) (lock : Bool) (old new : Hypothesis) (supported : Bool) → T (not (interrupting (shown_at hop a n).state)) → is_none (shown_at hop a n).withhold_reason ≡ supported
+  pub track_step : (n : ℕ) (lock : Bool) (old new : Option Hypothesis) (supported : Bool) → T (not (interrupting (shown_at hop a n).state)) → is_none (shown_at hop a n).withhold_reason ≡ supported
       → (T lock → EndsChain hop a n) → Tracked n old → Track (when hop a n) lock old new supported → Accepted (suc n) new
   track_step n lock old new supported q r d tr gone = no_track
-  track_step n lock old new supported q r d tr (set {l = l} h (inl u)) =
-      on_track_lem (follows_now n l h (subst (λ (b : Bool). T b) (sym r) tt) n (le_refl (suc n)) (d u) (λ k x y. absurd (lt_irrefl 0 (omega arith))))
+  track_step n lock old new supported q r d tr (set {t = t} h (inl u)) =
+      on_track_lem (follows_now n t.last_evidence_ms h (subst (λ (b : Bool). T b) (sym r) tt) n (le_refl (suc n)) (d u) (λ k x y. absurd (lt_irrefl 0 (omega arith))))
   track_step n lock old new supported q r d no_more (set h (inr u)) = absurd u
-  track_step n lock old new supported q r d (still j g) (set {l = l} h (inr u)) =
-      on_track_lem (follows_now n l h (subst (λ (b : Bool). T b) (sym r) tt) g.chain (let o = g.order in omega arith) g.ends
+  track_step n lock old new supported q r d (still j g) (set {t = t} h (inr u)) =
+      on_track_lem (follows_now n t.last_evidence_ms h (subst (λ (b : Bool). T b) (sym r) tt) g.chain (let o = g.order in omega arith) g.ends
       (λ k x y. elim (below_or k n y) [
         | inl b ↦ g.unbroken k x b
         | inr e ↦ subst (λ (m : ℕ). T (not (interrupts hop a m))) (sym e) (not_or (jump_at hop a n) (interrupting (shown_at hop a n).state) j q)
       ]))
-  track_step n lock old new supported q r d (still j g) (kept {l = l} h) =
-      on_track_lem (follows_up n l g (not_or (jump_at hop a n) (interrupting (shown_at hop a n).state) j q) (subst (λ (b : Bool). T (not b)) (sym r) tt))
+  track_step n lock old new supported q r d (still j g) (kept {t = t} h) =
+      on_track_lem (follows_up n t.last_evidence_ms g (not_or (jump_at hop a n) (interrupting (shown_at hop a n).state) j q) (subst (λ (b : Bool). T (not b)) (sym r) tt))
 
   -- ---- the coast
   -- The answer n is computed anew: without a jump its endpoint lies 90 past the one before.
@@ -135,7 +135,7 @@ module _ (hop : Float) (a : ℕ → Answered) where
 
   -- ---- a Locked answer
   pub record LockedWell (n : ℕ) : Type 0 where
-    pub estimate : T (estimated (shown_at hop a n).estimate)
+    pub estimate : T (is_some (shown_at hop a n).estimate)
     pub locked : OnChain hop a n
     pub coast : Coasts hop a n
 
@@ -158,7 +158,7 @@ module _ (hop : Float) (a : ℕ → Answered) where
         };
       }
 
-  pub locked_well : (n : ℕ) (x : Searched) (accepted : Hypothesis) → T (finite (context_frames hop ⊗ hop)) → Timely hop a (suc n) → Anew n → Accepted (suc n) accepted
+  pub locked_well : (n : ℕ) (x : Searched) (accepted : Option Hypothesis) → T (finite (context_frames hop ⊗ hop)) → Timely hop a (suc n) → Anew n → Accepted (suc n) accepted
       → TrackShown (shown_at hop a n) (when hop a n) x accepted → (shown_at hop a n).state ≡ state.Locked → LockedWell n
   locked_well n x accepted f tm w g (off t) e = absurd (not_locked x.reached.confirmed (sym t.state ∙ e))
-  locked_well n x accepted f tm w (on_track_lem h) (on {o = o} {l = l} t) e = on_the_track n x.reached.final_lock o l f tm w h t
+  locked_well n x accepted f tm w (on_track_lem h) (on {t = track} t) e = on_the_track n x.reached.final_lock track.offset_ms track.last_evidence_ms f tm w h t

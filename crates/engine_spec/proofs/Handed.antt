@@ -2,7 +2,7 @@
 use Prim.Native.Nat.{ℕ, zero, suc, ◌-◌, ◌*◌, ◌≤◌, ◌<◌}
 use native.Mathlib.Nat.{le_refl, not-suc-le-zero}
 use native.Mathlib.Omega.{arith}
-use mathlib.Core.Bool.{Bool, true, false, cond, ◌&&◌}
+use mathlib.Core.Bool.{Bool, true, false, ◌&&◌}
 use mathlib.Core.List.{List}
 use mathlib.Core.Logic.{inl, inr}
 use mathlib.Core.Path.{◌≡◌, refl, sym, subst}
@@ -11,6 +11,7 @@ use lib.Count.{count_trailing_zeros}
 use lib.ListN.{length, get_or}
 use lib.Ieee.{Float, nan, le, neg, of_bits, of_fields, odd}
 use lib.Ieee.Scale.{finite}
+use Rattle.std.specs.Prelude.{Option, None, Some}
 use Rattle.numbers_spec.specs.Values.{Within}
 use Rattle.numbers_spec.proofs.Order.{between_at_most}
 use Rattle.numbers_spec.specs.Rows.{all_to, Every, F32, every}
@@ -19,34 +20,52 @@ use Rattle.matcher_spec.specs.SoundSearch.{GoodWindow}
 use Rattle.numbers_spec.proofs.Within.{at_most_within}
 use Rattle.matcher_spec.proofs.Bounds.{widened_to}
 use Rattle.engine_spec.specs.Windows.{query, endpoint_of, Submission}
-use Rattle.engine_spec.specs.Refusals.{number_of, refuses, unless, ◌then◌, near, index_fits, lent_refusal, valid_window, valid_energy, window_refusal, work_fits, work_refusal, handed_refusal}
+use Rattle.engine_spec.specs.Refusals.{unless, ◌then◌, near, index_fits, lent_refusal, valid_window, valid_energy, window_refusal, work_fits, work_refusal, handed_refusal, RefusesByNumber, number_of}
 use Rattle.engine_spec.specs.declared.types.Settings.{Settings}
 use Rattle.engine_spec.specs.declared.types.Refusal.{Refusal}
 use Rattle.engine_spec.specs.declared.types.Refusal.TheVariants as refusal
-use Rattle.engine_spec.proofs.Tests.{and_l, and_r, T-is, below_or}
+use Rattle.engine_spec.proofs.Tests.{none_clash, and_l, and_r, T-is, below_or}
 use Rattle.matcher_spec.specs.Limits.{window_most, bands_most, farthest_ms, farthest}
+
+-- ---- a refusal by its number
+pub refuses_by_number : RefusesByNumber
+unfolding number_of
+refuses_by_number None = refl
+refuses_by_number (Some refusal.InvalidConfiguration) = refl
+refuses_by_number (Some refusal.HopOutOfRange) = refl
+refuses_by_number (Some refusal.ReferenceTooLarge) = refl
+refuses_by_number (Some refusal.ReferenceMiscounted) = refl
+refuses_by_number (Some refusal.ReferenceTimeTooFar) = refl
+refuses_by_number (Some refusal.IndexTooShort) = refl
+refuses_by_number (Some refusal.StateOutOfRange) = refl
+refuses_by_number (Some refusal.ClockNotFinite) = refl
+refuses_by_number (Some refusal.NoFrames) = refl
+refuses_by_number (Some refusal.WindowTooLarge) = refl
+refuses_by_number (Some refusal.WindowInvalid) = refl
+refuses_by_number (Some refusal.WindowTimeOutOfRange) = refl
+refuses_by_number (Some refusal.WorkTooShort) = refl
+refuses_by_number (Some refusal.NameOutOfRange) = refl
+refuses_by_number (Some refusal.StoreTooShort) = refl
+refuses_by_number (Some refusal.NothingKept) = refl
 
 -- ---- refusals in order
 -- Where the whole is no refusal, the first test passed and the rest is none.
-pub record Passed (test : Bool) (rest : Refusal) : Type 0 where
+pub record Passed (test : Bool) (rest : Option Refusal) : Type 0 where
   pub here : T test
-  pub on : refuses rest ≡ false
+  pub on : rest ≡ None
 
-pub passed : (test : Bool) (r rest : Refusal) → T (refuses r) → refuses (unless test r rest) ≡ false → Passed test rest
-passed true r rest h e = record { here = tt; on = e }
-passed false r rest h e = absurd (subst T e h)
+pub passed : (test : Bool) (r : Refusal) (rest : Option Refusal) → unless test r rest ≡ None → Passed test rest
+passed true r rest e = record { here = tt; on = e }
+passed false r rest e = none_clash e
 
 -- Where neither of two refuses in order, the first does not and the second does not.
-pub record Both (r rest : Refusal) : Type 0 where
-  pub first : refuses r ≡ false
-  pub second : refuses rest ≡ false
+pub record Both (r rest : Option Refusal) : Type 0 where
+  pub first : r ≡ None
+  pub second : rest ≡ None
 
-pub both : (r rest : Refusal) → refuses (r then rest) ≡ false → Both r rest
-both r rest = go (refuses r) refl
-  where
-    go : (b : Bool) → refuses r ≡ b → refuses (cond b r rest) ≡ false → Both r rest
-    go true q e = absurd (subst T e (subst T (sym q) tt))
-    go false q e = record { first = q; second = e }
+pub both : (r rest : Option Refusal) → r then rest ≡ None → Both r rest
+both None rest e = record { first = refl; second = e }
+both (Some r) rest e = none_clash e
 
 -- ---- every element
 all_at : (p : ℕ → Bool) (n i : ℕ) → T (all_to p n) → i < n → T (p i)
@@ -80,21 +99,21 @@ pub record Unrefused (s : Settings) (i : Submission) : Type 0 where
   pub times : T (every near i.window.times)
   pub work : T (work_fits i.window.bands (length i.window.times) s.reference_frames i.room32 i.room64)
 
-module _ (s : Settings) (i : Submission) (e : refuses (handed_refusal s i) ≡ false) where
+module _ (s : Settings) (i : Submission) (e : handed_refusal s i ≡ None) where
   pub unrefused : Unrefused s i
-  unfolding handed_refusal window_refusal number_of
+  unfolding handed_refusal window_refusal
   unrefused =
       let w = i.window in
       let n = length w.times in
       let lent = both (lent_refusal s i.index i.clock) (window_refusal w then work_refusal s w i.room32 i.room64) e in
       let whole = both (window_refusal w) (work_refusal s w i.room32 i.room64) lent.second in
-      let p₁ = passed (index_fits s.reference_frames s.reference_bands i.index) refusal.IndexTooShort _ tt lent.first in
-      let p₂ = passed (finite i.clock.0) refusal.ClockNotFinite _ tt p₁.on in
-      let p₃ = passed (ltb 0 n) refusal.NoFrames _ tt whole.first in
-      let p₄ = passed (leb n window_most && leb w.bands bands_most) refusal.WindowTooLarge _ tt p₃.on in
-      let p₅ = passed (valid_window w) refusal.WindowInvalid _ tt p₄.on in
-      let p₆ = passed (every near w.times && every valid_energy w.energies) refusal.WindowTimeOutOfRange _ tt p₅.on in
-      let p₇ = passed (work_fits w.bands n s.reference_frames i.room32 i.room64) refusal.WorkTooShort _ tt whole.second in
+      let p₁ = passed (index_fits s.reference_frames s.reference_bands i.index) refusal.IndexTooShort _ lent.first in
+      let p₂ = passed (finite i.clock.0) refusal.ClockNotFinite _ p₁.on in
+      let p₃ = passed (ltb 0 n) refusal.NoFrames _ whole.first in
+      let p₄ = passed (leb n window_most && leb w.bands bands_most) refusal.WindowTooLarge _ p₃.on in
+      let p₅ = passed (valid_window w) refusal.WindowInvalid _ p₄.on in
+      let p₆ = passed (every near w.times && every valid_energy w.energies) refusal.WindowTimeOutOfRange _ p₅.on in
+      let p₇ = passed (work_fits w.bands n s.reference_frames i.room32 i.room64) refusal.WorkTooShort _ whole.second in
       record {
         index = p₁.here;
         clock = p₂.here;

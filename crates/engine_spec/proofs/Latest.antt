@@ -6,23 +6,25 @@ use mathlib.Core.Path.{◌≡◌, refl, sym, ap, ◌∙◌, subst}
 use native.Mathlib.Omega.{arith}
 use lib.Dec.{T}
 use lib.ListN.{length, get_or}
+use Rattle.std.specs.Prelude.{Option, None, Some}
+use Rattle.std.specs.Option.{option_map_or}
 use Rattle.matcher_spec.specs.Index.{Matcher}
 use Rattle.engine_spec.specs.Cases.{is_computed}
 use Rattle.engine_spec.specs.Windows.{Submission, endpoint_of, rereads}
-use Rattle.engine_spec.specs.Refusals.{valid_configuration, valid_engine, refuses, submission_refusal}
+use Rattle.engine_spec.specs.Refusals.{valid_configuration, valid_engine, submission_refusal}
 use Rattle.engine_spec.specs.Opening.{fresh_engine, opened_settings, matcher_of_reference}
 use Rattle.engine_spec.specs.Submitting.{shown_again, reread, decision_on, computed_from, refused, answered_from, submit}
 use Rattle.engine_spec.specs.SupportAge.{support_age}
 use Rattle.engine_spec.specs.Lists.{Answered, answers_to, engine_after, remaining, unanswered}
 use Rattle.engine_spec.specs.Guarantee.{AllHanded, nothing, next}
 use Rattle.engine_spec.specs.Guaranteed.{last_of, ReadAgain, Rereadings, age_left, SupportAges}
+use Rattle.engine_spec.specs.declared.types.Refusal.{Refusal}
 use Rattle.engine_spec.specs.declared.types.Configuration.{Configuration}
 use Rattle.engine_spec.specs.declared.types.Settings.{Settings}
 use Rattle.engine_spec.specs.declared.types.Snapshot.{Snapshot}
 use Rattle.engine_spec.specs.declared.types.Last.{Last}
 use Rattle.engine_spec.specs.declared.types.Engine.{Engine}
 use Rattle.engine_spec.specs.declared.types.SubmitResult.{SubmitResult}
-use Rattle.engine_spec.specs.declared.types.Refusal.TheVariants as refusal
 use Rattle.engine_spec.specs.declared.types.Answer.{Answer}
 use Rattle.engine_spec.specs.declared.types.Answer.TheVariants as answer
 use Rattle.engine_spec.proofs.Tests.{and_l, T-is}
@@ -75,13 +77,13 @@ pub record Again (e : Engine) (i : Submission) : Type 0 where
 
 read_again : (e : Engine) (i : Submission) → (submit e i).answer ≡ answer.Reread → Again e i
 unfolding submit answered_from reread computed_from is_reread
-read_again e i h = go (refuses (submission_refusal e i)) (e.last.has_snapshot && rereads e.settings e.last.endpoint_ms i.window) refl refl (subst (λ (a : Answer). T (is_reread a)) (sym h) tt)
+read_again e i h = go (submission_refusal e i) (e.last.has_snapshot && rereads e.settings e.last.endpoint_ms i.window) refl refl (subst (λ (a : Answer). T (is_reread a)) (sym h) tt)
   where
-    go : (r b : Bool) → refuses (submission_refusal e i) ≡ r → (e.last.has_snapshot && rereads e.settings e.last.endpoint_ms i.window) ≡ b
-        → T (is_reread (cond r (refused e (submission_refusal e i)) (cond b (reread e (endpoint_of i.window)) (computed_from e i.window i.clock (decision_on e i)))).answer) → Again e i
-    go true b p q t = absurd t
-    go false false p q t = absurd t
-    go false true p q t = record { held = T-is e.last.has_snapshot (and_l e.last.has_snapshot _ (subst T (sym q) tt)); is = rw (p, q) refl }
+    go : (r : Option Refusal) (b : Bool) → submission_refusal e i ≡ r → (e.last.has_snapshot && rereads e.settings e.last.endpoint_ms i.window) ≡ b
+        → T (is_reread (option_map_or (refused e) r (cond b (reread e (endpoint_of i.window)) (computed_from e i.window i.clock (decision_on e i)))).answer) → Again e i
+    go (Some r) b p q t = absurd t
+    go None false p q t = absurd t
+    go None true p q t = record { held = T-is e.last.has_snapshot (and_l e.last.has_snapshot _ (subst T (sym q) tt)); is = rw (p, q) refl }
 
 again_left : (e f : Engine) (l : List Submission) (i : Submission) (R : List Answered) → e.last.has_snapshot ≡ false → Left e.last f.last R → Again f i
     → (0 < length R) × ((submit f i).snapshot ≡ shown_again (endpoint_of i.window) f.milestones (last_of R).snapshot)
@@ -101,12 +103,12 @@ module _ (c : Configuration) (s : Settings) (m : Matcher) (g : Grounds s m) (v :
       record { some = x.0; is = x.1 }
 
   -- ---- support ages
-  age_left_lem : (e f : Engine) (R : List Answered) → e.last.has_snapshot ≡ false → valid_engine f ≡ true → Left e.last f.last R → support_age f ≡ record { refusal = refusal.None; coast_ms = age_left R }
+  age_left_lem : (e f : Engine) (R : List Answered) → e.last.has_snapshot ≡ false → valid_engine f ≡ true → Left e.last f.last R → support_age f ≡ record { refusal = None; coast_ms = age_left R }
   unfolding support_age
   age_left_lem e f [] n q h = rw (q, ap (λ (t : Last). t.has_snapshot) h ∙ n) refl
   age_left_lem e f (x ∷ R) n q h = rw (q, h.0, h.1) refl
 
-  age : support_age (engine_after (fresh_engine c s) l) ≡ record { refusal = refusal.None; coast_ms = age_left (remaining (answers_to (fresh_engine c s) l)) }
+  age : support_age (engine_after (fresh_engine c s) l) ≡ record { refusal = None; coast_ms = age_left (remaining (answers_to (fresh_engine c s) l)) }
   age =
       age_left_lem fresh (engine_after fresh l) (remaining (answers_to fresh l)) (unfold fresh_engine in refl)
       (safe_valid (engine_after fresh l) (good_after s m g fresh l (good_fresh c s m g v) h).safe) reached_left
@@ -120,5 +122,5 @@ rereadings c hop reference x held opened l h =
 pub support_ages : SupportAges
 support_ages c hop reference x held opened l h =
     let o : Opening c hop reference x = record { held = held; opened = opened } in
-    subst (λ (e : Engine). support_age (engine_after e l) ≡ record { refusal = refusal.None; coast_ms = age_left (remaining (answers_to e l)) }) (sym (engine_is o))
+    subst (λ (e : Engine). support_age (engine_after e l) ≡ record { refusal = None; coast_ms = age_left (remaining (answers_to e l)) }) (sym (engine_is o))
     (age c (opened_settings hop reference) (matcher_of_reference hop reference) (grounds c hop reference x o) (configuration_valid o) l h)

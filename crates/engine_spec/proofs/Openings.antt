@@ -10,6 +10,7 @@ use lib.ListN.{length, get_or, drop}
 use lib.Seq.{drop-append_seam}
 use lib.Ieee.{Float, nan, le, lt, eq, neg, of_bits}
 use lib.Ieee.Scale.{finite}
+use Rattle.std.specs.Prelude.{Option, None, Some}
 use Rattle.numbers_spec.specs.Arithmetic.{zero⁺}
 use Rattle.numbers_spec.specs.Values.{Number}
 use Rattle.numbers_spec.specs.Rows.{all_to, Every, F32, every}
@@ -21,14 +22,15 @@ use Rattle.matcher_spec.proofs.SoundSearch.{whole_sound, local_sound}
 use Rattle.matcher_spec.proofs.FilledIndex.{filled_index}
 use Rattle.engine_spec.specs.Windows.{Window, indexed, matcher_in, query, endpoint_of, Submission}
 use Rattle.matcher_spec.specs.Features.{Features}
-use Rattle.engine_spec.specs.Refusals.{number_of, refuses, near, near_or_not_finite, valid_configuration, hop_in_range, counts_in_range, both_or_neither, opening_refusal, valid_settings, handed_refusal}
+use Rattle.engine_spec.specs.Refusals.{refuses, near, near_or_not_finite, valid_configuration, hop_in_range, counts_in_range, both_or_neither, opening_refusal, valid_settings, handed_refusal}
 use Rattle.engine_spec.specs.Opening.{fresh_engine, with_index, without_index, accepts_features, opened_settings, opening, fills, matcher_of_reference, opened_index}
 use Rattle.engine_spec.specs.Readiness.{readiness}
 use Rattle.engine_spec.specs.Publishing.{decide}
 use Rattle.engine_spec.specs.Submitting.{lock_from, decision_on}
 use Rattle.engine_spec.specs.Guarantee.{Begins, FilledWith, Handed}
 use Rattle.engine_spec.specs.Guaranteed.{OpenedFilled}
-use Rattle.engine_spec.specs.Cases.{is_none, is_refused}
+use Rattle.engine_spec.specs.Cases.{is_refused}
+use Rattle.engine_spec.specs.declared.types.Refusal.{Refusal}
 use Rattle.engine_spec.specs.declared.types.Reached.{Reached}
 use Rattle.engine_spec.specs.Milestones.{reached_by}
 use Rattle.engine_spec.specs.declared.types.Configuration.{Configuration}
@@ -40,7 +42,7 @@ use Rattle.engine_spec.specs.declared.types.WithholdReason.TheVariants as reason
 use Rattle.engine_spec.specs.declared.types.Answer.TheVariants as answer
 use Rattle.engine_spec.specs.declared.types.Refusal.TheVariants as refusal
 use Rattle.engine_spec.specs.declared.types.OpenResult.{OpenResult}
-use Rattle.engine_spec.proofs.Tests.{cond_elim, and_l, and_r, and_i, or_split, or_r, T-is}
+use Rattle.engine_spec.proofs.Tests.{cond_elim, option_elim, and_l, and_r, and_i, or_split, or_r, T-is}
 use Rattle.engine_spec.proofs.Effects.{Fair, Sound, trim}
 use Rattle.engine_spec.proofs.Handed.{passed, every_at, near_within, unrefused, near_endpoint, good_window}
 use Rattle.engine_spec.proofs.EvidenceBound.{hop_between, evidence_bound, trimmed_finite}
@@ -56,21 +58,17 @@ begins_filled true front old h = record { tail = drop (length front) old; is = r
 begins_filled false front old h = absurd h
 
 -- ---- a decision reads the matcher only where there is an index
-unsearched : (indexed : Bool) (r : WithholdReason) → T (not indexed) → is_none (cond (not indexed) reason.IndexUnavailable r) ≡ false
-unfolding is_none
+unsearched : (indexed : Bool) (r : Option WithholdReason) → T (not indexed) → cond (not indexed) (Some reason.IndexUnavailable) r ≡ Some reason.IndexUnavailable
 unsearched true r h = absurd h
 unsearched false r h = refl
-
-same_else : {A : Type 0} (b : Bool) (x y z : A) → b ≡ false → cond b x z ≡ cond b y z
-same_else b x y z e = rw e refl
 
 same_decision : (granted : Bool) (c : Configuration) (s : Settings) (m n : Matcher) (w : Window) (k : Reached) (l : Lock) → (T (indexed s) → m ≡ n) → decide granted c s m w k l ≡ decide granted c s n w k l
 unfolding decide readiness
 same_decision granted c s m n w k l h = go (indexed s) h (unsearched (indexed s) _)
   where
-    go : (b : Bool) → (T b → m ≡ n) → (T (not b) → is_none (readiness c s k.confirmed w) ≡ false) → decide granted c s m w k l ≡ decide granted c s n w k l
+    go : (b : Bool) → (T b → m ≡ n) → (T (not b) → readiness c s k.confirmed w ≡ Some reason.IndexUnavailable) → decide granted c s m w k l ≡ decide granted c s n w k l
     go true h u = ap (λ (x : Matcher). decide granted c s x w k l) (h tt)
-    go false h u = same_else (is_none (readiness c s k.confirmed w)) _ _ _ (u tt)
+    go false h u = rw (u tt) refl
 
 -- ---- the halves of a best candidate are no NaN
 best_halves : (b : Candidate) (l : List Candidate) → SoundResult (b ∷ l) → Number b.first_half_score × Number b.second_half_score
@@ -132,24 +130,22 @@ valid_settings_lem s q r b n =
     (and_i (counts_in_range s.reference_frames s.reference_bands) _ r
     (and_i (both_or_neither s.reference_frames s.reference_bands) _ b n))
 
--- An opening is answered where it is not refused.
-answered : (b : Bool) (x y : OpenResult) → is_refused x.answer ≡ true → is_refused (cond b x y).answer ≡ false → b ≡ false
-answered true x y r h = sym r ∙ h
-answered false x y r h = refl
-
 module _ (c : Configuration) (hop : Float) (reference : Features) (x : Index) (o : (opening c hop reference x).answer ≡ answer.Opened) where
-  not_refused : refuses (opening_refusal c hop reference x) ≡ false
+  -- An opening is answered where it is not refused.
+  not_refused : opening_refusal c hop reference x ≡ None
   unfolding opening is_refused
-  not_refused = answered (refuses (opening_refusal c hop reference x)) _ _ refl (ap is_refused o)
+  not_refused =
+      option_elim (λ (y : OpenResult). is_refused y.answer ≡ false → opening_refusal c hop reference x ≡ None) _ (opening_refusal c hop reference x) _
+      (λ e _. e) (λ r _ h. absurd (subst (λ (b : Bool). T b) h tt)) (ap is_refused o)
 
   tested : Tested c hop reference
-  unfolding opening_refusal number_of
+  unfolding opening_refusal
   tested =
-      let p₁ = passed (valid_configuration c) refusal.InvalidConfiguration _ tt not_refused in
-      let p₂ = passed (hop_in_range hop) refusal.HopOutOfRange _ tt p₁.on in
-      let p₃ = passed (counts_in_range (length reference.times) reference.bands) refusal.ReferenceTooLarge _ tt p₂.on in
-      let p₄ = passed (eqb (length reference.values) (reference.bands * length reference.times)) refusal.ReferenceMiscounted _ tt p₃.on in
-      let p₅ = passed (every near_or_not_finite reference.times) refusal.ReferenceTimeTooFar _ tt p₄.on in
+      let p₁ = passed (valid_configuration c) refusal.InvalidConfiguration _ not_refused in
+      let p₂ = passed (hop_in_range hop) refusal.HopOutOfRange _ p₁.on in
+      let p₃ = passed (counts_in_range (length reference.times) reference.bands) refusal.ReferenceTooLarge _ p₂.on in
+      let p₄ = passed (eqb (length reference.values) (reference.bands * length reference.times)) refusal.ReferenceMiscounted _ p₃.on in
+      let p₅ = passed (every near_or_not_finite reference.times) refusal.ReferenceTimeTooFar _ p₄.on in
       record { configuration = p₁.here; hop_in_range_lem = p₂.here; counts = p₃.here; full = p₄.here; times = p₅.here }
 
   -- A finite start lies within ±10 ^ 12.
@@ -187,7 +183,7 @@ module _ (c : Configuration) (hop : Float) (reference : Features) (x : Index) (o
 
     filling : T (fills c hop reference x)
     unfolding fills
-    filling = and_i (not (refuses (opening_refusal c hop reference x))) (accepts_features hop reference) (subst (λ (b : Bool). T (not b)) (sym not_refused) tt) (accepted_reference hop reference there)
+    filling = and_i (not (refuses (opening_refusal c hop reference x))) (accepts_features hop reference) (subst (λ (r : Option Refusal). T (not (refuses r))) (sym not_refused) tt) (accepted_reference hop reference there)
 
     opened_index_lem : FilledWith (matcher_of_reference hop reference) (opened_index c hop reference x)
     unfolding opened_index
@@ -242,7 +238,7 @@ module _ {c : Configuration} {hop : Float} {reference : Features} {x : Index} (o
   trim_finite = trimmed_finite (opened_settings hop reference).hop_ms hop_of_settings
 
   -- ---- a submission that is not refused, with the index that opening filled
-  module _ (i : Submission) (h : Handed (opened_settings hop reference) (matcher_of_reference hop reference) i) (e : refuses (handed_refusal (opened_settings hop reference) i) ≡ false) where
+  module _ (i : Submission) (h : Handed (opened_settings hop reference) (matcher_of_reference hop reference) i) (e : handed_refusal (opened_settings hop reference) i ≡ None) where
     pub sound : Sound (opened_settings hop reference) (matcher_of_reference hop reference) i.window
     sound =
         let good = good_window (opened_settings hop reference) i e h.held in
@@ -265,7 +261,7 @@ module _ {c : Configuration} {hop : Float} {reference : Features} {x : Index} (o
     matcher_is there = matcher_held c hop reference x o.opened there i.index (h.index there (unrefused (opened_settings hop reference) i e).index)
 
   pub decision_is : (e : Engine) (i : Submission) → e.settings ≡ opened_settings hop reference → Handed (opened_settings hop reference) (matcher_of_reference hop reference) i
-      → refuses (handed_refusal (opened_settings hop reference) i) ≡ false
+      → handed_refusal (opened_settings hop reference) i ≡ None
       → decision_on e i ≡ decide true e.configuration (opened_settings hop reference) (matcher_of_reference hop reference) i.window (reached_by e.milestones) (lock_from e i.window)
   unfolding decision_on
   decision_is e i same h r =

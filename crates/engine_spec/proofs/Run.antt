@@ -8,6 +8,7 @@ use native.Mathlib.Nat.{lt_irrefl}
 use lib.Dec.{T}
 use lib.ListN.{length, get_or}
 use lib.Ieee.{Float}
+use Rattle.std.specs.Prelude.{Option, None, Some}
 use Rattle.matcher_spec.specs.Index.{Index, Matcher}
 use Rattle.engine_spec.specs.Windows.{Window, rereads, Submission}
 use Rattle.matcher_spec.specs.Features.{Features}
@@ -25,11 +26,10 @@ use Rattle.engine_spec.proofs.Openings.{Opening, engine_is, hop_is, configuratio
 use Rattle.engine_spec.proofs.Validity.{safe_next, offsets_finite}
 use Rattle.engine_spec.proofs.Submissions.{clash, computed_by, is_at, Good, Grounds, New, refusal, again, computed, good_fresh, good_after, refusal_is, answered_by, Steps, stop, step, steps, told, Trace, end, more, trace}
 use Rattle.engine_spec.proofs.Struck.{alike, alike_self, reclocked}
+use Rattle.engine_spec.specs.declared.types.RecordedMs.{RecordedMs}
 use Rattle.engine_spec.specs.declared.types.Configuration.{Configuration}
 use Rattle.engine_spec.specs.declared.types.Settings.{Settings}
 use Rattle.engine_spec.specs.declared.types.Engine.{Engine}
-use Rattle.engine_spec.specs.declared.types.Endpoint.{Endpoint}
-use Rattle.engine_spec.specs.declared.types.Endpoint.TheVariants as endpoint
 
 -- ---- an opening that is answered gives all that the list's proof rests on
 pub grounds : (c : Configuration) (hop : Float) (reference : Features) (x : Index) → Opening c hop reference x → Grounds (opened_settings hop reference) (matcher_of_reference hop reference)
@@ -139,9 +139,9 @@ usual_with x A h t zero l = h
 usual_with x A h t (suc k) l = t k (omega arith)
 
 -- without an endpoint nothing is re-read
-there : (s : Settings) (p : Endpoint) (w : Window) → rereads s p w ≡ true → T (is_at p)
-there s endpoint.Absent w h = clash (sym h)
-there s (endpoint.At t) w h = tt
+there : (s : Settings) (p : Option RecordedMs) (w : Window) → rereads s p w ≡ true → T (is_at p)
+there s None w h = clash (sym h)
+there s (Some t) w h = tt
 
 usual_along : (s : Settings) (m : Matcher) (e : Engine) (l : List Submission) (A : List Answered) → Steps s m e l A → LastUsual e → Usual (remaining A) → UsualUnrefused A
 unfolding remaining is_computed is_refused reread shown_again computed_from

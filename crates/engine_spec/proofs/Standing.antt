@@ -9,6 +9,7 @@ use native.Mathlib.Omega.{arith}
 use lib.Dec.{T, T_not}
 use lib.Ieee.{Float, lt}
 use lib.Ieee.Scale.{finite}
+use Rattle.std.specs.Prelude.{Option, None, Some, is_some, is_none}
 use Rattle.matcher_spec.specs.declared.types.Candidate.{Candidate}
 use Rattle.matcher_spec.specs.Index.{Matcher}
 use Rattle.matcher_spec.specs.Search.{whole_search}
@@ -23,7 +24,7 @@ use Rattle.engine_spec.specs.Submitting.{lock_from, computed_from}
 use Rattle.engine_spec.specs.Chain.{window_at, shown_at, whole_at, Passes, jump_at, EndsChain, Ending, Coasting, Placed}
 use Rattle.engine_spec.specs.Guarantee.{Shows, Trusted}
 use Rattle.engine_spec.specs.Leap.{Gentle}
-use Rattle.engine_spec.specs.Cases.{is_none, is_there, estimated, interrupting, unreachable}
+use Rattle.engine_spec.specs.Cases.{interrupting, unreachable}
 use Rattle.engine_spec.specs.declared.types.Reached.{Reached}
 use Rattle.engine_spec.specs.Milestones.{milestones_shown, reached_by, stamp}
 use Rattle.engine_spec.specs.Lists.{Answered}
@@ -35,16 +36,12 @@ use Rattle.engine_spec.specs.declared.types.Lock.{Lock}
 use Rattle.engine_spec.specs.declared.types.Milestones.{Milestones}
 use Rattle.engine_spec.specs.declared.types.Snapshot.{Snapshot}
 use Rattle.engine_spec.specs.declared.types.Engine.{Engine}
-use Rattle.engine_spec.specs.declared.types.Milestone.{Milestone}
 use Rattle.engine_spec.specs.declared.types.Hypothesis.{Hypothesis}
-use Rattle.engine_spec.specs.declared.types.Hypothesis.TheVariants as hypothesis
-use Rattle.engine_spec.specs.declared.types.Endpoint.{Endpoint}
-use Rattle.engine_spec.specs.declared.types.Endpoint.TheVariants as endpoint
 use Rattle.engine_spec.specs.declared.types.State.{State}
 use Rattle.engine_spec.specs.declared.types.State.TheVariants as state
 use Rattle.engine_spec.specs.declared.types.WithholdReason.{WithholdReason}
 use Rattle.engine_spec.specs.declared.types.WithholdReason.TheVariants as reason
-use Rattle.engine_spec.proofs.Tests.{cond_elim, not_or_l, or_split, or_l, or_r, below_or, not_T_is}
+use Rattle.engine_spec.proofs.Tests.{cond_elim, option_elim, not_or_l, or_split, or_l, or_r, below_or, not_T_is}
 use Rattle.engine_spec.proofs.Effects.{Fair, Offsets, trim, is_held, Pend, same, weak, pass, Effects, best_offset_of, View, Silence}
 use Rattle.engine_spec.proofs.Answers.{effects, viewed, silenced, shows_whole}
 use Rattle.engine_spec.proofs.Passing.{passes_is}
@@ -56,14 +53,13 @@ use Rattle.engine_spec.proofs.Following.{Accepted, no_track, on_track_lem, Track
 use Rattle.engine_spec.proofs.ShownCandidates.{apart_shown}
 
 -- ---- what a whole search found is the matcher's
-found_is : (m : Matcher) (hop : Float) (w : Window) (k : Reached) (p : Hypothesis) (s : Searched) (global : Bool) (found : List Candidate) (lock : Bool) → Pend m hop w k p s global found lock → T global → found ≡ whole_search m (query w)
+found_is : (m : Matcher) (hop : Float) (w : Window) (k : Reached) (p : Option Hypothesis) (s : Searched) (global : Bool) (found : List Candidate) (lock : Bool) → Pend m hop w k p s global found lock → T global → found ≡ whole_search m (query w)
 found_is m hop w k p s global found lock (same e z) t = absurd t
 found_is m hop w k p s global found lock (weak q u e z) t = q
 found_is m hop w k p s global found lock (pass q u e y z) t = q
 
 -- ---- a window that is ready
-searched_if_lem : (i short timely quiet few : Bool) → T (is_none (cond (not i) reason.IndexUnavailable (cond short reason.InsufficientDuration (cond (not timely) reason.LostSignal (cond quiet reason.InsufficientEnergy (cond few reason.InsufficientActiveFrames reason.None)))))) → T i × T timely
-unfolding is_none
+searched_if_lem : (i short timely quiet few : Bool) → T (is_none (cond (not i) (Some reason.IndexUnavailable) (cond short (Some reason.InsufficientDuration) (cond (not timely) (Some reason.LostSignal) (cond quiet (Some reason.InsufficientEnergy) (cond few (Some reason.InsufficientActiveFrames) None)))))) → T i × T timely
 searched_if_lem false short timely quiet few t = absurd t
 searched_if_lem true true timely quiet few t = absurd t
 searched_if_lem true false false quiet few t = absurd t
@@ -111,9 +107,9 @@ module _ (s : Settings) (m : Matcher) (a : ℕ → Answered) where
   w = window_at hop a
 
   -- the endpoint of the last computed window before n
-  abbrev pub prev_end : ℕ → Endpoint
-  prev_end zero = endpoint.Absent
-  prev_end (suc n) = endpoint.At (endpoint_of (window_at s.hop_ms a n))
+  abbrev pub prev_end : ℕ → Option RecordedMs
+  prev_end zero = None
+  prev_end (suc n) = Some (endpoint_of (window_at s.hop_ms a n))
 
   -- What the state e says of the n answers computed before it: pending is the open chain that began first, the accepted track follows a chain, and final is there where one of the answers ends a chain.
   pub record Inv (n : ℕ) (e : Engine) : Type 0 where
@@ -124,9 +120,9 @@ module _ (s : Settings) (m : Matcher) (a : ℕ → Answered) where
     pub pending : Pending s.hop_ms a n e.lock.pending
     pub accepted : Accepted s.hop_ms a n e.lock.accepted
     pub leads : Leads s.hop_ms a n e.lock.accepted
-    pub there_if : T (is_there e.milestones.final_ms) → (j : ℕ) × (j < n) × EndsChain s.hop_ms a j
-    pub only_if : (j : ℕ) → j < n → EndsChain s.hop_ms a j → T (is_there e.milestones.final_ms)
-    pub lasting : (j : ℕ) → j < n → T (is_there (shown_at s.hop_ms a j).final_lock_elapsed_ms) → e.milestones.final_ms ≡ (shown_at s.hop_ms a j).final_lock_elapsed_ms
+    pub there_if : T (is_some e.milestones.final_ms) → (j : ℕ) × (j < n) × EndsChain s.hop_ms a j
+    pub only_if : (j : ℕ) → j < n → EndsChain s.hop_ms a j → T (is_some e.milestones.final_ms)
+    pub lasting : (j : ℕ) → j < n → T (is_some (shown_at s.hop_ms a j).final_lock_elapsed_ms) → e.milestones.final_ms ≡ (shown_at s.hop_ms a j).final_lock_elapsed_ms
 
   pub start : (c : Configuration) → Inv 0 (fresh_engine c s)
   unfolding fresh_engine
@@ -156,14 +152,14 @@ module _ (s : Settings) (m : Matcher) (a : ℕ → Answered) where
     ending : EndsChain hop a n → Ending hop a n
     coasting : (shown_at hop a n).state ≡ state.Locked → T (not (is_none (shown_at hop a n).withhold_reason)) → Coasting hop a n
     gentle : Gentle hop a n
-    placed : (T (is_held d.lock.accepted) → T d.reached.final_lock) → T (estimated (shown_at hop a n).estimate) → Placed hop a n
+    placed : (T (is_held d.lock.accepted) → T d.reached.final_lock) → T (is_some (shown_at hop a n).estimate) → Placed hop a n
     searched : T (whole_at hop a n) → Shows hop (w n) (whole_search m (query (w n))) (shown_at hop a n)
     usual : (T (is_held d.lock.accepted) → T d.reached.final_lock) → unreachable (shown_at hop a n).state ≡ false
 
   -- the window could not be searched: an interruption
-  interrupting_made : (c : Configuration) (n : ℕ) (k : Reached) (l : Lock) (r : WithholdReason) (ms : Milestones) → T (not (is_none r)) → shown_at hop a n ≡ publish c hop (w n) (unready s k l r) ms → Made n k (unready s k l r)
-  interrupting_made c n k l r ms h v =
-      let q : Silence (shown_at hop a n) = subst (λ (x : Snapshot). Silence x) (sym v) (silenced c hop s (w n) k l r ms h) in
+  interrupting_made : (c : Configuration) (n : ℕ) (k : Reached) (l : Lock) (r : WithholdReason) (ms : Milestones) → shown_at hop a n ≡ publish c hop (w n) (unready s k l r) ms → Made n k (unready s k l r)
+  interrupting_made c n k l r ms v =
+      let q : Silence (shown_at hop a n) = subst (λ (x : Snapshot). Silence x) (sym v) (silenced c hop s (w n) k l r ms) in
       let np : Passes hop a n → ⊥ = λ t. subst (λ (b : Bool). T b) (passes_is (shown_at hop a n) false [] q.shown) t in
       record {
         lock = false;
@@ -231,24 +227,23 @@ module _ (s : Settings) (m : Matcher) (a : ℕ → Answered) where
       → shown_at hop a n ≡ publish c hop (w n) (decide granted c s m (w n) k l) ms → Made n k (decide granted c s m (w n) k l)
   unfolding decide
   decided_made granted c n k l ms f fair tm nr rd tr ld O =
-      let r = readiness c s k.confirmed (w n) in
-      cond_elim (λ (d : Decision). shown_at hop a n ≡ publish c hop (w n) d ms → Made n k d) (is_none r) (ready (evidence hop (w n)) (searched granted m hop (w n) k l)) (unready s k l r)
-      (λ t v. let x = ready_window c s k.confirmed (w n) t in ready_made granted c n k l ms f (fair.halves x.0) tm (anew n x.1 nr) rd tr ld (O x.0) v)
-      (λ t v. interrupting_made c n k l r ms t v)
+      option_elim (λ (d : Decision). shown_at hop a n ≡ publish c hop (w n) d ms → Made n k d) (unready s k l) (readiness c s k.confirmed (w n)) (ready (evidence hop (w n)) (searched granted m hop (w n) k l))
+      (λ t v. let x = ready_window c s k.confirmed (w n) (subst (λ (r : Option WithholdReason). T (is_none r)) (sym t) tt) in ready_made granted c n k l ms f (fair.halves x.0) tm (anew n x.1 nr) rd tr ld (O x.0) v)
+      (λ r _ v. interrupting_made c n k l r ms v)
 
   -- ---- what the answer before left, a jump taken account of
   jump_is : (n : ℕ) (e : Engine) → Inv n e → jumps e.settings e.last.endpoint_ms (w n) ≡ jump_at hop a n
   jump_is zero e inv = rw (inv.settings, inv.endpoint)
   jump_is (suc n) e inv = rw (inv.settings, inv.endpoint)
 
-  pending_ready : (n : ℕ) (p : Hypothesis) → T (not (jump_at hop a n)) → Pending hop a n p → Ready hop a n p
+  pending_ready : (n : ℕ) (p : Option Hypothesis) → T (not (jump_at hop a n)) → Pending hop a n p → Ready hop a n p
   pending_ready n p j (idle f) = none_open (λ i l o. f i (open_down hop a i n o l))
   pending_ready n p j (running r) = going j r
 
-  jumped_ready : (n : ℕ) → T (jump_at hop a n) → Ready hop a n hypothesis.Absent
+  jumped_ready : (n : ℕ) → T (jump_at hop a n) → Ready hop a n None
   jumped_ready n j = none_open (λ i l o. T_not (jump_at hop a n) (not_or_l (jump_at hop a n) (interrupting (shown_at hop a n).state) (o.unbroken n l (le_refl (suc n)))) j)
 
-  accepted_tracked : (n : ℕ) (p : Hypothesis) → T (not (jump_at hop a n)) → Accepted hop a n p → Tracked hop a n p
+  accepted_tracked : (n : ℕ) (p : Option Hypothesis) → T (not (jump_at hop a n)) → Accepted hop a n p → Tracked hop a n p
   accepted_tracked n p j no_track = no_more
   accepted_tracked n p j (on_track_lem h) = still j h
 
@@ -267,7 +262,7 @@ module _ (s : Settings) (m : Matcher) (a : ℕ → Answered) where
     pub gentle : Gentle s.hop_ms a n
 
   -- a track is accepted only where final is there
-  held_final : (n : ℕ) (k : Reached) (d : Decision) (p : Hypothesis) → ((j : ℕ) → j < n → EndsChain hop a j → T k.final_lock) → (x : Made n k d) → Accepted hop a (suc n) p → T (is_held p) → T d.reached.final_lock
+  held_final : (n : ℕ) (k : Reached) (d : Decision) (p : Option Hypothesis) → ((j : ℕ) → j < n → EndsChain hop a j → T k.final_lock) → (x : Made n k d) → Accepted hop a (suc n) p → T (is_held p) → T d.reached.final_lock
   held_final n k d p only x no_track t = absurd t
   held_final n k d p only x (on_track_lem h) t = subst (λ (b : Bool). T b) (sym x.final_is) (elim (below_or h.chain n h.order) [
     | inl b ↦ or_l k.final_lock x.lock (only h.chain b h.ends)
@@ -280,19 +275,19 @@ module _ (s : Settings) (m : Matcher) (a : ℕ → Answered) where
       let final : T (is_held d.lock.accepted) → T d.reached.final_lock = held_final n (reached_by e.milestones) d d.lock.accepted inv.only_if x x.accepted in
       let before = e.milestones.final_ms in
       let now = e'.milestones.final_ms in
-      let shown : ℕ → Milestone = λ j. (shown_at hop a j).final_lock_elapsed_ms in
+      let shown : ℕ → Option ClockMs = λ j. (shown_at hop a j).final_lock_elapsed_ms in
       let mk : Marked e.milestones e'.milestones x.lock = subst (λ (z : Milestones). Marked e.milestones z x.lock) (sym milestones-is) (marked e.milestones d.reached x.lock clock inv.same x.final_is) in
       let is : shown n ≡ now = ap (λ (z : Milestones). z.final_ms) shown-is in
-      let there_if : T (is_there now) → (j : ℕ) × (j < suc n) × EndsChain hop a j = λ t. elim (or_split (is_there before) x.lock (subst (λ (b : Bool). T b) mk.there_is t)) [
+      let there_if : T (is_some now) → (j : ℕ) × (j < suc n) × EndsChain hop a j = λ t. elim (or_split (is_some before) x.lock (subst (λ (b : Bool). T b) mk.there_is t)) [
         | inl u ↦ let y = inv.there_if u in (y.0, (let z = y.1 in omega arith), y.2)
         | inr u ↦ (n, le_refl (suc n), x.ends u)
       ] in
-      let only_if : (j : ℕ) → j < suc n → EndsChain hop a j → T (is_there now) = λ j l c. subst (λ (b : Bool). T b) (sym mk.there_is) (elim (below_or j n l) [
-        | inl b ↦ or_l (is_there before) x.lock (inv.only_if j b c)
-        | inr q ↦ or_r (is_there before) x.lock (x.lock_if (subst (λ (i : ℕ). EndsChain hop a i) q c))
+      let only_if : (j : ℕ) → j < suc n → EndsChain hop a j → T (is_some now) = λ j l c. subst (λ (b : Bool). T b) (sym mk.there_is) (elim (below_or j n l) [
+        | inl b ↦ or_l (is_some before) x.lock (inv.only_if j b c)
+        | inr q ↦ or_r (is_some before) x.lock (x.lock_if (subst (λ (i : ℕ). EndsChain hop a i) q c))
       ]) in
-      let lasting : (j : ℕ) → j < suc n → T (is_there (shown j)) → now ≡ shown j = λ j l t. elim (below_or j n l) [
-        | inl b ↦ let y = inv.lasting j b t in mk.lasting (subst (λ (z : Milestone). T (is_there z)) (sym y) t) ∙ y
+      let lasting : (j : ℕ) → j < suc n → T (is_some (shown j)) → now ≡ shown j = λ j l t. elim (below_or j n l) [
+        | inl b ↦ let y = inv.lasting j b t in mk.lasting (subst (λ (z : Option ClockMs). T (is_some z)) (sym y) t) ∙ y
         | inr q ↦ sym is ∙ ap (λ (i : ℕ). shown i) (sym q)
       ] in
       record {
@@ -311,8 +306,8 @@ module _ (s : Settings) (m : Matcher) (a : ℕ → Answered) where
         trusted = record {
           same = ap (λ (z : Milestones). z.confirmed_ms) shown-is ∙ mk.same ∙ sym is;
           there = record {
-            to = λ t. let y = there_if (subst (λ (z : Milestone). T (is_there z)) is t) in (y.0, (let z = y.1 in omega arith), y.2);
-            from = λ y. subst (λ (z : Milestone). T (is_there z)) (sym is) (only_if y.0 (let z = y.1 in omega arith) y.2);
+            to = λ t. let y = there_if (subst (λ (z : Option ClockMs). T (is_some z)) is t) in (y.0, (let z = y.1 in omega arith), y.2);
+            from = λ y. subst (λ (z : Option ClockMs). T (is_some z)) (sym is) (only_if y.0 (let z = y.1 in omega arith) y.2);
           };
           lasting = λ j l t. is ∙ lasting j (omega arith) t;
           estimate = λ e. (x.locked e).estimate;
@@ -342,7 +337,7 @@ module _ (s : Settings) (m : Matcher) (a : ℕ → Answered) where
       let tm = timely_up hop a n inv.timely fair.endpoint fair.evidence in
       let r = lock_ready n e inv in
       let v' : shown_at hop a n ≡ publish e.configuration hop (w n) d ms = v ∙ ap (λ (z : Settings). publish e.configuration z.hop_ms (w n) d ms) inv.settings in
-      let x = decided_made true e.configuration n (reached_by e.milestones) (lock_from e (w n)) ms f fair tm (ap (λ (z : Endpoint). rereads s z (w n)) (sym inv.endpoint) ∙ nr) r.0 r.1 r.2 O v' in
+      let x = decided_made true e.configuration n (reached_by e.milestones) (lock_from e (w n)) ms f fair tm (ap (λ (z : Option RecordedMs). rereads s z (w n)) (sym inv.endpoint) ∙ nr) r.0 r.1 r.2 O v' in
       made_next n e (computed_from e (w n) clock d).engine d clock tm inv x inv.settings refl refl refl
       (ap milestones_shown v' ∙ shown_milestones e.configuration hop (w n) d ms)
 

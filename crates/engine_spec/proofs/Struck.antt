@@ -8,17 +8,19 @@ use lib.Dec.{T}
 use lib.ListN.{length}
 use lib.Ieee.{Float}
 use lib.Ieee.Scale.{finite}
+use Rattle.std.specs.Prelude.{Option, None, Some, is_some}
 use Rattle.matcher_spec.specs.Index.{Matcher}
 use Rattle.engine_spec.specs.Windows.{Window, rereads, Submission}
-use Rattle.engine_spec.specs.Refusals.{refuses, handed_refusal}
+use Rattle.engine_spec.specs.Refusals.{handed_refusal}
 use Rattle.engine_spec.specs.Publishing.{Decision, decide, publish}
 use Rattle.engine_spec.specs.Submitting.{lock_from, reread, computed_from, submit}
 use Rattle.engine_spec.specs.Guarantee.{Handed, AllHanded, submissions_of, under, AllFinite, at_clock, Reclocked, nothing, next, unread, without_readings, Bare, bares}
+use Rattle.engine_spec.specs.declared.types.RecordedMs.{RecordedMs}
 use Rattle.engine_spec.specs.declared.types.Reached.{Reached}
-use Rattle.engine_spec.specs.Cases.{is_there, is_computed}
+use Rattle.engine_spec.specs.Cases.{is_computed}
 use Rattle.engine_spec.specs.Milestones.{reached_by, stamped_once, stamped_with_final, stamp}
 use Rattle.engine_spec.specs.Lists.{Answered, answers_to, engine_after, remaining}
-use Rattle.engine_spec.proofs.Tests.{T-is}
+use Rattle.engine_spec.proofs.Tests.{none_clash, T-is}
 use Rattle.engine_spec.proofs.Submissions.{clash, decision_by, computed_by, Good, Grounds, New, Kind, refusal, again, computed, kind, good_next, answered_by}
 use Rattle.engine_spec.specs.declared.types.ClockMs.{ClockMs}
 use Rattle.engine_spec.specs.declared.types.Configuration.{Configuration}
@@ -28,28 +30,25 @@ use Rattle.engine_spec.specs.declared.types.Milestones.{Milestones}
 use Rattle.engine_spec.specs.declared.types.Snapshot.{Snapshot}
 use Rattle.engine_spec.specs.declared.types.Engine.{Engine}
 use Rattle.engine_spec.specs.declared.types.SubmitResult.{SubmitResult}
-use Rattle.engine_spec.specs.declared.types.Endpoint.{Endpoint}
-use Rattle.engine_spec.specs.declared.types.Milestone.{Milestone}
-use Rattle.engine_spec.specs.declared.types.Milestone.TheVariants as milestone
 use Rattle.engine_spec.specs.declared.types.Answer.TheVariants as answer
 
 -- ---- the milestones: which are there, whatever they read
 -- Stamped by two clocks, they are there alike.
 module _ (k : Reached) (c d : ClockMs) where
-  once_alike : (b : Bool) (x y : Milestone) → is_there x ≡ is_there y → is_there (stamped_once b x c) ≡ is_there (stamped_once b y d)
+  once_alike : (b : Bool) (x y : Option ClockMs) → is_some x ≡ is_some y → is_some (stamped_once b x c) ≡ is_some (stamped_once b y d)
   once_alike false x y h = h
-  once_alike true milestone.Absent milestone.Absent h = refl
-  once_alike true milestone.Absent (milestone.At t) h = refl
-  once_alike true (milestone.At t) milestone.Absent h = refl
-  once_alike true (milestone.At t) (milestone.At u) h = refl
+  once_alike true None None h = refl
+  once_alike true None (Some t) h = refl
+  once_alike true (Some t) None h = refl
+  once_alike true (Some t) (Some u) h = refl
 
-  with_final_alike : (b : Bool) (p q x y : Milestone) → is_there p ≡ is_there q → is_there x ≡ is_there y
-      → is_there (stamped_with_final b p x c) ≡ is_there (stamped_with_final b q y d)
+  with_final_alike : (b : Bool) (p q x y : Option ClockMs) → is_some p ≡ is_some q → is_some x ≡ is_some y
+      → is_some (stamped_with_final b p x c) ≡ is_some (stamped_with_final b q y d)
   with_final_alike false p q x y h j = j
-  with_final_alike true milestone.Absent milestone.Absent x y h j = refl
-  with_final_alike true milestone.Absent (milestone.At t) x y h j = clash (sym h)
-  with_final_alike true (milestone.At t) milestone.Absent x y h j = clash h
-  with_final_alike true (milestone.At t) (milestone.At u) x y h j = j
+  with_final_alike true None None x y h j = refl
+  with_final_alike true None (Some t) x y h j = clash (sym h)
+  with_final_alike true (Some t) None x y h j = clash h
+  with_final_alike true (Some t) (Some u) x y h j = j
 
   stamp_alike : (x y : Milestones) → reached_by x ≡ reached_by y → reached_by (stamp x k c) ≡ reached_by (stamp y k d)
   unfolding stamp
@@ -60,11 +59,11 @@ module _ (k : Reached) (c d : ClockMs) where
   }
 
 -- ---- and so a snapshot without its readings
-unread_alike : (x y : Milestone) → is_there x ≡ is_there y → unread x ≡ unread y
-unread_alike milestone.Absent milestone.Absent h = refl
-unread_alike milestone.Absent (milestone.At t) h = clash (sym h)
-unread_alike (milestone.At t) milestone.Absent h = clash h
-unread_alike (milestone.At t) (milestone.At u) h = refl
+unread_alike : (x y : Option ClockMs) → is_some x ≡ is_some y → unread x ≡ unread y
+unread_alike None None h = refl
+unread_alike None (Some t) h = clash (sym h)
+unread_alike (Some t) None h = clash h
+unread_alike (Some t) (Some u) h = refl
 
 publish_alike : (c : Configuration) (hop : Float) (w : Window) (d : Decision) (x y : Milestones) → reached_by x ≡ reached_by y → without_readings (publish c hop w d x) ≡ without_readings (publish c hop w d y)
 unfolding publish
@@ -87,8 +86,8 @@ same_refusal : (s : Settings) (i : Submission) (c : ClockMs) → finite c.0 ≡ 
 unfolding handed_refusal
 same_refusal s i c h = rw h refl
 
-clock_passes : (s : Settings) (m : Matcher) → Grounds s m → (i : Submission) (c : ClockMs) → T (finite c.0) → refuses (handed_refusal s i) ≡ false → refuses (handed_refusal s (at_clock c i)) ≡ false
-clock_passes s m g i c t h = ap refuses (same_refusal s i c (T-is (finite c.0) t ∙ sym (T-is (finite i.clock.0) (g.clocked i h)))) ∙ h
+clock_passes : (s : Settings) (m : Matcher) → Grounds s m → (i : Submission) (c : ClockMs) → T (finite c.0) → handed_refusal s i ≡ None → handed_refusal s (at_clock c i) ≡ None
+clock_passes s m g i c t h = same_refusal s i c (T-is (finite c.0) t ∙ sym (T-is (finite i.clock.0) (g.clocked i h))) ∙ h
 
 -- ---- two states that differ in readings only, as far as a decision sees
 pub record Alike (e f : Engine) : Type 0 where
@@ -102,7 +101,7 @@ alike_self e = record { configuration = refl; lock = refl; endpoint = refl; reac
 
 -- what is new is computed
 submit_new : (s : Settings) (m : Matcher) (e : Engine) (i : Submission) (x : SubmitResult) → New s m e i → Kind s m e i x → x ≡ computed_by s m e i
-submit_new s m e i x n (refusal q) = clash (sym q ∙ n.answered)
+submit_new s m e i x n (refusal q) = none_clash (sym q ∙ n.answered)
 submit_new s m e i x n (again q p) = clash (sym p ∙ n.anew)
 submit_new s m e i x n (computed k) = refl
 
@@ -116,7 +115,7 @@ module _ (s : Settings) (m : Matcher) (g : Grounds s m) (e f : Engine) (good : G
   new_alike = record {
     handed = record { index = n.handed.index; held = n.handed.held };
     answered = clock_passes s m g i c t n.answered;
-    anew = ap (λ (p : Endpoint). rereads s p i.window) like.endpoint ∙ n.anew;
+    anew = ap (λ (p : Option RecordedMs). rereads s p i.window) like.endpoint ∙ n.anew;
   }
 
   kind_alike : Kind s m f (at_clock c i) (submit f (at_clock c i))

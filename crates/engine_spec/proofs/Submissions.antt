@@ -4,9 +4,11 @@ use mathlib.Core.List.{List, [], ◌∷◌}
 use mathlib.Core.Path.{◌≡◌, refl, sym, ap, ap₂, ◌∙◌, subst}
 use lib.Dec.{T}
 use lib.Ieee.Scale.{finite}
+use Rattle.std.specs.Prelude.{Option, None, Some}
+use Rattle.std.specs.Option.{option_map_or}
 use Rattle.matcher_spec.specs.Index.{Matcher}
 use Rattle.engine_spec.specs.Windows.{Window, indexed, query, endpoint_of, evidence, rereads, Submission}
-use Rattle.engine_spec.specs.Refusals.{refuses, valid_configuration, valid_settings, handed_refusal, submission_refusal}
+use Rattle.engine_spec.specs.Refusals.{valid_configuration, valid_settings, handed_refusal, submission_refusal}
 use Rattle.engine_spec.specs.Opening.{fresh_engine}
 use Rattle.engine_spec.specs.Publishing.{Decision, decide}
 use Rattle.engine_spec.specs.Submitting.{lock_from, decision_on, reread, computed_from, refused, answered_from, submit}
@@ -16,12 +18,12 @@ use Rattle.engine_spec.specs.Lists.{Answered, answers_to, engine_after, remainin
 use Rattle.engine_spec.specs.Cases.{is_computed}
 use Rattle.engine_spec.proofs.Effects.{Fair, Sound, Offsets, trim}
 use Rattle.engine_spec.proofs.Validity.{Safe, safe_valid, safe_fresh}
+use Rattle.engine_spec.specs.declared.types.Refusal.{Refusal}
+use Rattle.engine_spec.specs.declared.types.RecordedMs.{RecordedMs}
 use Rattle.engine_spec.specs.declared.types.Configuration.{Configuration}
 use Rattle.engine_spec.specs.declared.types.Settings.{Settings}
 use Rattle.engine_spec.specs.declared.types.Engine.{Engine}
 use Rattle.engine_spec.specs.declared.types.SubmitResult.{SubmitResult}
-use Rattle.engine_spec.specs.declared.types.Endpoint.{Endpoint}
-use Rattle.engine_spec.specs.declared.types.Endpoint.TheVariants as endpoint
 use Rattle.engine_spec.specs.declared.types.Answer.{Answer}
 
 -- A test that comes out both ways.
@@ -36,9 +38,9 @@ abbrev pub computed_by : Settings → Matcher → Engine → Submission → Subm
 computed_by s m e i = computed_from e i.window i.clock (decision_by s m e i)
 
 -- ---- a state that is reached
-abbrev pub is_at : Endpoint → Bool
-is_at endpoint.Absent = false
-is_at (endpoint.At t) = true
+abbrev pub is_at : Option RecordedMs → Bool
+is_at None = false
+is_at (Some t) = true
 
 -- It has these settings, keeps its numbers in range, and has a last snapshot exactly where it has a last endpoint.
 pub record Good (s : Settings) (e : Engine) : Type 0 where
@@ -50,12 +52,12 @@ pub record Good (s : Settings) (e : Engine) : Type 0 where
 pub record Grounds (s : Settings) (m : Matcher) : Type 0 where
   pub trimmed : T (finite (trim s))
   pub valid : valid_settings s ≡ true
-  pub clocked : (i : Submission) → refuses (handed_refusal s i) ≡ false → T (finite i.clock.0)
-  pub fair : (i : Submission) → Handed s m i → refuses (handed_refusal s i) ≡ false → Fair s m i.window
-  pub sound : (i : Submission) → Handed s m i → refuses (handed_refusal s i) ≡ false → Sound s m i.window
-  pub decision : (e : Engine) (i : Submission) → e.settings ≡ s → Handed s m i → refuses (handed_refusal s i) ≡ false → decision_on e i ≡ decision_by s m e i
-  pub offsets : (e : Engine) (i : Submission) → Good s e → Handed s m i → refuses (handed_refusal s i) ≡ false → T (indexed s) → Offsets m (query i.window) (evidence s.hop_ms i.window) (lock_from e i.window).accepted
-  pub safe : (e : Engine) (i : Submission) → Good s e → Handed s m i → refuses (handed_refusal s i) ≡ false → Safe (computed_by s m e i).engine
+  pub clocked : (i : Submission) → handed_refusal s i ≡ None → T (finite i.clock.0)
+  pub fair : (i : Submission) → Handed s m i → handed_refusal s i ≡ None → Fair s m i.window
+  pub sound : (i : Submission) → Handed s m i → handed_refusal s i ≡ None → Sound s m i.window
+  pub decision : (e : Engine) (i : Submission) → e.settings ≡ s → Handed s m i → handed_refusal s i ≡ None → decision_on e i ≡ decision_by s m e i
+  pub offsets : (e : Engine) (i : Submission) → Good s e → Handed s m i → handed_refusal s i ≡ None → T (indexed s) → Offsets m (query i.window) (evidence s.hop_ms i.window) (lock_from e i.window).accepted
+  pub safe : (e : Engine) (i : Submission) → Good s e → Handed s m i → handed_refusal s i ≡ None → Safe (computed_by s m e i).engine
 
 pub good_fresh : (c : Configuration) (s : Settings) (m : Matcher) → Grounds s m → valid_configuration c ≡ true → Good s (fresh_engine c s)
 unfolding fresh_engine
@@ -66,12 +68,12 @@ module _ (s : Settings) (m : Matcher) where
   -- a submission that is neither refused nor a re-reading
   pub record New (e : Engine) (i : Submission) : Type 0 where
     pub handed : Handed s m i
-    pub answered : refuses (handed_refusal s i) ≡ false
+    pub answered : handed_refusal s i ≡ None
     pub anew : rereads s e.last.endpoint_ms i.window ≡ false
 
   pub data Kind (e : Engine) (i : Submission) : SubmitResult → Type 0 where
-    refusal : refuses (handed_refusal s i) ≡ true → Kind e i (refused e (handed_refusal s i))
-    again : refuses (handed_refusal s i) ≡ false → rereads s e.last.endpoint_ms i.window ≡ true → Kind e i (reread e (endpoint_of i.window))
+    refusal : {r : Refusal} → handed_refusal s i ≡ Some r → Kind e i (refused e r)
+    again : handed_refusal s i ≡ None → rereads s e.last.endpoint_ms i.window ≡ true → Kind e i (reread e (endpoint_of i.window))
     computed : New e i → Kind e i (computed_by s m e i)
 
 -- 7 is not answered: only what is handed in may be refused
@@ -80,9 +82,9 @@ unfolding submission_refusal
 refusal_is s e i g = rw (safe_valid e g.safe, g.settings)
 
 -- without an endpoint nothing is a re-reading
-snapshot_idle : (s : Settings) (p : Endpoint) (w : Window) → (is_at p && rereads s p w) ≡ rereads s p w
-snapshot_idle s endpoint.Absent w = refl
-snapshot_idle s (endpoint.At t) w = refl
+snapshot_idle : (s : Settings) (p : Option RecordedMs) (w : Window) → (is_at p && rereads s p w) ≡ rereads s p w
+snapshot_idle s None w = refl
+snapshot_idle s (Some t) w = refl
 
 rereads_is : (s : Settings) (e : Engine) (w : Window) → Good s e → (e.last.has_snapshot && rereads e.settings e.last.endpoint_ms w) ≡ rereads s e.last.endpoint_ms w
 rereads_is s e w g =
@@ -94,13 +96,13 @@ pub kind : (s : Settings) (m : Matcher) → Grounds s m → (e : Engine) (i : Su
 unfolding submit answered_from
 kind s m g e i good h =
     rw (refusal_is s e i good, rereads_is s e i.window good)
-    (go (refuses (handed_refusal s i)) (rereads s e.last.endpoint_ms i.window) refl refl)
+    (go (handed_refusal s i) (rereads s e.last.endpoint_ms i.window) refl refl)
   where
-    go : (r a : Bool) → refuses (handed_refusal s i) ≡ r → rereads s e.last.endpoint_ms i.window ≡ a
-        → Kind s m e i (cond r (refused e (handed_refusal s i)) (cond a (reread e (endpoint_of i.window)) (computed_from e i.window i.clock (decision_on e i))))
-    go true a q p = refusal q
-    go false true q p = again q p
-    go false false q p =
+    go : (r : Option Refusal) (a : Bool) → handed_refusal s i ≡ r → rereads s e.last.endpoint_ms i.window ≡ a
+        → Kind s m e i (option_map_or (refused e) r (cond a (reread e (endpoint_of i.window)) (computed_from e i.window i.clock (decision_on e i))))
+    go (Some r) a q p = refusal q
+    go None true q p = again q p
+    go None false q p =
         subst (λ (d : Decision). Kind s m e i (computed_from e i.window i.clock d)) (sym (g.decision e i good.settings h q))
         (computed (record { handed = h; answered = q; anew = p }))
 
@@ -144,7 +146,7 @@ module _ (s : Settings) (m : Matcher) (e : Engine) (i : Submission) where
   answer_is x (again q p) = rw (q, p) refl
   answer_is x (computed n) = rw (n.answered, n.anew) refl
 
-  endpoint_is : (x : SubmitResult) → Kind s m e i x → x.engine.last.endpoint_ms ≡ cond (is_computed told_here) (endpoint.At (endpoint_of i.window)) e.last.endpoint_ms
+  endpoint_is : (x : SubmitResult) → Kind s m e i x → x.engine.last.endpoint_ms ≡ cond (is_computed told_here) (Some (endpoint_of i.window)) e.last.endpoint_ms
   unfolding answer_to reread computed_from is_computed
   endpoint_is x (refusal q) = rw q refl
   endpoint_is x (again q p) = rw (q, p) refl
@@ -154,7 +156,7 @@ pub told : (s : Settings) (m : Matcher) (e : Engine) (l : List Submission) (A : 
 unfolding answers told_by
 told s m e l A stop = refl
 told s m e l A (step {i = i} {x = x} {l = k} {A = B} good is rest) =
-    ap₂ ◌∷◌ (answer_is s m e i x is) (told s m x.engine k B rest ∙ ap (λ (p : Endpoint). told_by s p k) (endpoint_is s m e i x is))
+    ap₂ ◌∷◌ (answer_is s m e i x is) (told s m x.engine k B rest ∙ ap (λ (p : Option RecordedMs). told_by s p k) (endpoint_is s m e i x is))
 
 -- ---- the computed answers alone, as a run in which nothing is struck
 pub data Trace (s : Settings) (m : Matcher) : Engine → List Answered → Type 0 where

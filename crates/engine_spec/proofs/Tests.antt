@@ -1,15 +1,26 @@
--- Tests taken apart and put together: of a `cond`, of `&&`, `||` and `not`. Assumes nothing.
+-- Tests taken apart and put together: of a `cond`, of an `Option`, of `&&`, `||` and `not`. Assumes nothing.
 use Prim.Native.Nat.{ℕ, suc, ◌≤◌, ◌<◌}
 use mathlib.Core.Bool.{Bool, true, false, cond, not, ◌&&◌, ◌||◌}
 use mathlib.Core.Logic.{◌⊎◌, inl, inr}
-use mathlib.Core.Path.{◌≡◌, refl}
+use mathlib.Core.Path.{◌≡◌, refl, subst}
 use native.Mathlib.Omega.{arith}
 use lib.Dec.{T, ltb, ltb→lt, nltb→le}
+use Rattle.std.specs.Prelude.{Option, None, Some, is_some}
+use Rattle.std.specs.Option.{option_map_or}
 
 -- of a `cond`, with what its test says in each branch
 pub cond_elim : {A : Type 0} (G : A → Type 0) (b : Bool) (x y : A) → (T b → G x) → (T (not b) → G y) → G (cond b x y)
 cond_elim G true x y h k = h tt
 cond_elim G false x y h k = k tt
+
+-- of an `Option`, with which it is in each case
+pub option_elim : {A B : Type 0} (G : B → Type 0) (f : A → B) (o : Option A) (x : B) → (o ≡ None → G x) → ((a : A) → o ≡ Some a → G (f a)) → G (option_map_or f o x)
+option_elim G f None x h k = h refl
+option_elim G f (Some a) x h k = k a refl
+
+-- a value is not none
+pub none_clash : {A C : Type 0} {a : A} → Some a ≡ None → C
+none_clash e = absurd (subst (λ o. T (is_some o)) e tt)
 
 pub and_l : (a b : Bool) → T (a && b) → T a
 and_l true b t = tt

@@ -10,6 +10,7 @@ use lib.ListN.{length}
 use lib.Ieee.{Float, inf, binary64, le, lt, eq, neg, add, sum, of_bits, of_fields, odd, round, units, size, span, climb, fits}
 use lib.Ieee.Fits.{add-fits}
 use lib.Ieee.Scale.{finite}
+use Rattle.std.specs.Prelude.{Option, None, Some}
 use Rattle.numbers_spec.specs.Arithmetic.{◌⊕◌, ◌⊖◌, zero⁺, at_least, magnitude}
 use Rattle.numbers_spec.specs.Values.{AtMost}
 use Rattle.numbers_spec.proofs.Order.{le_transitive, lt→le, between_at_most, at_most_finite}
@@ -24,12 +25,11 @@ use Rattle.engine_spec.specs.Windows.{Window, indexed, query, endpoint_of, evide
 use Rattle.engine_spec.specs.Refusals.{within, near, hop_in_range, valid_configuration, valid_settings, track_number, valid_hypothesis, valid_search_time, valid_lock, valid_milestone, valid_milestones, valid_endpoint, valid_estimate, valid_snapshot, valid_last, valid_engine}
 use Rattle.engine_spec.specs.Opening.{no_lock, fresh_engine}
 use Rattle.engine_spec.specs.Readiness.{readiness}
-use Rattle.engine_spec.specs.Tracking.{Tracked, may_coast, supports, moved_offset, followed, tracked}
+use Rattle.engine_spec.specs.Tracking.{hypothesis, Tracked, may_coast, supports, moved_offset, followed, tracked}
 use Rattle.engine_spec.specs.Locking.{Searched, is_due, passing, first_evidence, holds, held_or_dropped, confirms, kept_or_replaced, passed, not_passed, whole_searched, searched}
 use Rattle.engine_spec.specs.Publishing.{Decision, off_track, on_track, verdict_of, decide, estimate_at, publish, offset_of}
 use Rattle.engine_spec.specs.Submitting.{lock_from, computed_from}
 use Rattle.engine_spec.specs.Milestones.{no_milestones, reached_by, stamped_once, stamped_with_final, stamp}
-use Rattle.engine_spec.specs.Cases.{is_none}
 use Rattle.engine_spec.specs.Finite.{FiniteMaybe}
 use Rattle.engine_spec.specs.declared.types.Reached.{Reached}
 use Rattle.engine_spec.specs.declared.types.Verdict.{Verdict}
@@ -40,16 +40,11 @@ use Rattle.engine_spec.specs.declared.types.Settings.{Settings}
 use Rattle.engine_spec.specs.declared.types.Lock.{Lock}
 use Rattle.engine_spec.specs.declared.types.Milestones.{Milestones}
 use Rattle.engine_spec.specs.declared.types.Engine.{Engine}
-use Rattle.engine_spec.specs.declared.types.Maybe.{Maybe}
-use Rattle.engine_spec.specs.declared.types.Maybe.TheVariants as maybe
-use Rattle.engine_spec.specs.declared.types.Milestone.{Milestone}
-use Rattle.engine_spec.specs.declared.types.Milestone.TheVariants as milestone
 use Rattle.engine_spec.specs.declared.types.Hypothesis.{Hypothesis}
-use Rattle.engine_spec.specs.declared.types.Hypothesis.TheVariants as hypothesis
 use Rattle.engine_spec.specs.declared.types.WithholdReason.{WithholdReason}
 use Rattle.engine_spec.specs.declared.types.WithholdReason.TheVariants as reason
 use Rattle.engine_spec.proofs.Effects.{Sound, FiniteTrack, moved, Moving, Offsets}
-use Rattle.engine_spec.proofs.Tests.{cond_elim, and_l, and_r, and_i, or_l, not_not, T-is}
+use Rattle.engine_spec.proofs.Tests.{cond_elim, option_elim, none_clash, and_l, and_r, and_i, or_l, not_not, T-is}
 use Rattle.engine_spec.proofs.Answers.{kept_or_begun}
 use Rattle.engine_spec.proofs.EvidenceBound.{bounded, in_range, at_most_wider, farthest_finite, track_most_finite, evidence_bound}
 use Rattle.engine_spec.proofs.MovedBound.{found_most, place_most, Step, moved_toward, since_finite, since_not_negative}
@@ -61,9 +56,9 @@ pub record Place (o : Float) : Type 0 where
   pub most : AtMost place_most o
   pub held : T (fits binary64 o)
 
-pub data Bounded : Hypothesis → Type 0 where
-  none : Bounded hypothesis.Absent
-  held : {o : Float} {f l : RecordedMs} {c : Float} → Place o → AtMost track_most f.0 → AtMost track_most l.0 → AtMost track_most c → Bounded (hypothesis.Held o f l c)
+pub data Bounded : Option Hypothesis → Type 0 where
+  none : Bounded None
+  held : {h : Hypothesis} → Place h.offset_ms → AtMost track_most h.first_evidence_ms.0 → AtMost track_most h.last_evidence_ms.0 → AtMost track_most h.correlation → Bounded (Some h)
 
 pub record LockBounds (l : Lock) : Type 0 where
   pub pending : Bounded l.pending
@@ -86,12 +81,16 @@ place_track : T (le place_most track_most)
 unfolding le lt eq of_bits of_fields odd count_trailing_zeros
 place_track = tt
 
-place_valid : (h : Hypothesis) → Bounded h → T (valid_hypothesis h)
+place_valid : (h : Option Hypothesis) → Bounded h → T (valid_hypothesis h)
 unfolding valid_hypothesis
-place_valid hypothesis.Absent none = tt
-place_valid (hypothesis.Held o f l c) (held O F L C) =
+place_valid None none = tt
+place_valid (Some h) (held O F L C) =
+    let o = h.offset_ms in
+    let f = h.first_evidence_ms.0 in
+    let l = h.last_evidence_ms.0 in
+    let c = h.correlation in
     and_i (track_number o) _ (within_T track_most o (at_most_wider place_most track_most o place_track O.most))
-    (and_i (track_number f.0) _ (within_T track_most f.0 F) (and_i (track_number l.0) (track_number c) (within_T track_most l.0 L) (within_T track_most c C)))
+    (and_i (track_number f) _ (within_T track_most f F) (and_i (track_number l) (track_number c) (within_T track_most l L) (within_T track_most c C)))
 
 lock_valid : (l : Lock) → LockBounds l → T (valid_lock l)
 unfolding valid_lock
@@ -164,9 +163,9 @@ since_bound = tt
 place_finite : (x : Float) → Place x → T (finite x)
 place_finite x h = at_most_finite place_most x tt h.most
 
-track_finite : (h : Hypothesis) → Bounded h → FiniteTrack h
-track_finite hypothesis.Absent h = tt
-track_finite (hypothesis.Held o f l c) (held O F L C) = place_finite o O
+track_finite : (h : Option Hypothesis) → Bounded h → FiniteTrack h
+track_finite None h = tt
+track_finite (Some h) (held O F L C) = place_finite h.offset_ms O
 
 -- So is how far what was found lies from the track,
 innovation_bound : T (finite (found_most ⊕ place_most))
@@ -185,7 +184,7 @@ unfolding supports
 supports_place offset best t = and_r (le support_recent best.recent_score) _ (and_r (le support_correlation best.score) _ t)
 
 module _ (now : RecordedMs) (N : AtMost track_most now.0) where
-  begun : (c : Candidate) → Best c → Bounded (hypothesis.Held c.offset_ms now now c.score)
+  begun : (c : Candidate) → Best c → Bounded (Some (hypothesis c.offset_ms now now c.score))
   begun c b = held (best_place c b) N N b.score
 
   -- A local search moves the track toward the best of what it found, or leaves it.
@@ -196,59 +195,59 @@ module _ (now : RecordedMs) (N : AtMost track_most now.0) where
   moved_place : (o : Float) (l : RecordedMs) (best : Candidate) → Place o → AtMost track_most l.0 → Best best → T (supports o best) → Place (moved_offset o best (at_least zero⁺ (now after l)))
   moved_place o l best O L b t = record { most = (moved_step o l best O L b t).stays 41 O.most b.offset; held = unfold moved_offset in add-fits binary64 o _ }
 
-  followed_well : (o : Float) (f l : RecordedMs) (c : Float) → Bounded (hypothesis.Held o f l c) → (found : List Candidate) → SoundResult found → TrackedWell (followed o f l c now found)
+  followed_well : (h : Hypothesis) → Bounded (Some h) → (found : List Candidate) → SoundResult found → TrackedWell (followed h now found)
   unfolding followed
-  followed_well o f l c h [] r = record { accepted = h; found = r; innovation = tt }
-  followed_well o f l c (held O F L C) (best ∷ rest) r =
+  followed_well h k [] r = record { accepted = k; found = r; innovation = tt }
+  followed_well h (held O F L C) (best ∷ rest) r =
       let b = best_of best rest r in
-      cond_elim TrackedWell (supports o best) _ _
-      (λ t. record { accepted = held (moved_place o l best O L b t) F N b.score; found = r; innovation = innovation_finite best.offset_ms o b.offset O })
+      cond_elim TrackedWell (supports h.offset_ms best) _ _
+      (λ t. record { accepted = held (moved_place h.offset_ms h.last_evidence_ms best O L b t) F N b.score; found = r; innovation = innovation_finite best.offset_ms h.offset_ms b.offset O })
       (λ t. record { accepted = held O F L C; found = r; innovation = tt })
 
-  followed_moved : (o : Float) (f l : RecordedMs) (c : Float) → Bounded (hypothesis.Held o f l c) → (found : List Candidate) → SoundResult found → Moving (hypothesis.Held o f l c) (followed o f l c now found)
+  followed_moved : (h : Hypothesis) → Bounded (Some h) → (found : List Candidate) → SoundResult found → Moving (Some h) (followed h now found)
   unfolding followed
-  followed_moved o f l c h [] r = λ u. absurd u
-  followed_moved o f l c (held O F L C) (best ∷ rest) r =
+  followed_moved h k [] r = λ u. absurd u
+  followed_moved h (held O F L C) (best ∷ rest) r =
       let b = best_of best rest r in
-      cond_elim (Moving (hypothesis.Held o f l c)) (supports o best) _ _
-      (λ t _. moved (moved_step o l best O L b t))
+      cond_elim (Moving (Some h)) (supports h.offset_ms best) _ _
+      (λ t _. moved (moved_step h.offset_ms h.last_evidence_ms best O L b t))
       (λ t u. absurd u)
 
   -- Pending's first evidence, carried on or begun.
-  first_bound : (p : Hypothesis) (offset : Float) → Bounded p → AtMost track_most (first_evidence p offset now).0
+  first_bound : (p : Option Hypothesis) (offset : Float) → Bounded p → AtMost track_most (first_evidence p offset now).0
   unfolding first_evidence
-  first_bound hypothesis.Absent offset h = N
-  first_bound (hypothesis.Held old first last correlation) offset (held O F L C) =
-      cond_elim (λ (t : RecordedMs). AtMost track_most t.0) (same_place old offset && current now last) first now (λ t. F) (λ t. N)
+  first_bound None offset h = N
+  first_bound (Some old) offset (held O F L C) =
+      cond_elim (λ (t : RecordedMs). AtMost track_most t.0) (same_place old.offset_ms offset && current now old.last_evidence_ms) old.first_evidence_ms now (λ t. F) (λ t. N)
 
-  held_or_dropped_lem : (p : Hypothesis) (found : List Candidate) → Bounded p → Bounded (held_or_dropped p found now)
+  held_or_dropped_lem : (p : Option Hypothesis) (found : List Candidate) → Bounded p → Bounded (held_or_dropped p found now)
   unfolding held_or_dropped
-  held_or_dropped_lem hypothesis.Absent found h = none
-  held_or_dropped_lem (hypothesis.Held o f l c) found h = cond_elim Bounded (holds o l found now) (hypothesis.Held o f l c) hypothesis.Absent (λ t. h) (λ t. none)
+  held_or_dropped_lem None found h = none
+  held_or_dropped_lem (Some old) found h = cond_elim Bounded (holds old.offset_ms old.last_evidence_ms found now) (Some old) None (λ t. h) (λ t. none)
 
-  kept_or_replaced_lem : (h : Hypothesis) (supported : Bool) (best : Candidate) → Bounded h → Best best → Bounded (kept_or_replaced h supported best now)
+  kept_or_replaced_lem : (h : Option Hypothesis) (supported : Bool) (best : Candidate) → Bounded h → Best best → Bounded (kept_or_replaced h supported best now)
   unfolding kept_or_replaced
-  kept_or_replaced_lem hypothesis.Absent supported best h b = begun best b
-  kept_or_replaced_lem (hypothesis.Held o f l c) supported best h b = kept_or_begun Bounded o f l c supported best now (begun best b) (λ x y. h)
+  kept_or_replaced_lem None supported best h b = begun best b
+  kept_or_replaced_lem (Some t) supported best h b = kept_or_begun Bounded t supported best now (begun best b) (λ x y. h)
 
 -- A window whose searches are sound.
 module _ (m : Matcher) (hop : Float) (w : Window) (N : AtMost track_most (evidence hop w).0) (near_end : T (near (endpoint_of w).0)) where
   end_time : T (valid_search_time (endpoint_of w))
   end_time = or_l (near (endpoint_of w).0) (eq (endpoint_of w).0 (inf true)) near_end
 
-  tracked_well : (h : Hypothesis) → Bounded h → ((lower upper : Float) → SoundResult (local_search m.reference m.fine (query w) lower upper)) → TrackedWell (tracked m (query w) (evidence hop w) h)
+  tracked_well : (h : Option Hypothesis) → Bounded h → ((lower upper : Float) → SoundResult (local_search m.reference m.fine (query w) lower upper)) → TrackedWell (tracked m (query w) (evidence hop w) h)
   unfolding tracked
-  tracked_well hypothesis.Absent h r = record { accepted = none; found = nothing_found; innovation = tt }
-  tracked_well (hypothesis.Held o f l c) h r =
-      cond_elim TrackedWell (may_coast (evidence hop w) l) _ _
-      (λ t. followed_well (evidence hop w) N o f l c h _ (r _ _))
+  tracked_well None h r = record { accepted = none; found = nothing_found; innovation = tt }
+  tracked_well (Some old) h r =
+      cond_elim TrackedWell (may_coast (evidence hop w) old.last_evidence_ms) _ _
+      (λ t. followed_well (evidence hop w) N old h _ (r _ _))
       (λ t. record { accepted = none; found = nothing_found; innovation = tt })
 
-  tracked_moved : (h : Hypothesis) → Bounded h → ((lower upper : Float) → SoundResult (local_search m.reference m.fine (query w) lower upper)) → Moving h (tracked m (query w) (evidence hop w) h)
+  tracked_moved : (h : Option Hypothesis) → Bounded h → ((lower upper : Float) → SoundResult (local_search m.reference m.fine (query w) lower upper)) → Moving h (tracked m (query w) (evidence hop w) h)
   unfolding tracked
-  tracked_moved hypothesis.Absent h r = λ u. absurd u
-  tracked_moved (hypothesis.Held o f l c) h r =
-      cond_elim (Moving (hypothesis.Held o f l c)) (may_coast (evidence hop w) l) _ _ (λ t. followed_moved (evidence hop w) N o f l c h _ (r _ _)) (λ t u. absurd u)
+  tracked_moved None h r = λ u. absurd u
+  tracked_moved (Some old) h r =
+      cond_elim (Moving (Some old)) (may_coast (evidence hop w) old.last_evidence_ms) _ _ (λ t. followed_moved (evidence hop w) N old h _ (r _ _)) (λ t u. absurd u)
 
   passed_well : (k : Reached) (first : RecordedMs) (t : Tracked) (best : Candidate) (rest : List Candidate) → AtMost track_most first.0 → TrackedWell t → SoundResult (best ∷ rest) → SearchedWell (passed hop (evidence hop w) (endpoint_of w) k first t best rest)
   unfolding passed
@@ -259,10 +258,10 @@ module _ (m : Matcher) (hop : Float) (w : Window) (N : AtMost track_most (eviden
       (λ u. record { lock = record { pending = pending; accepted = kept_or_replaced_lem (evidence hop w) N t.accepted t.supported best τ.accepted b; time = end_time }; found = r; innovation = τ.innovation })
       (λ u. record { lock = record { pending = pending; accepted = τ.accepted; time = end_time }; found = r; innovation = τ.innovation })
 
-  not_passed_well : (k : Reached) (p : Hypothesis) (t : Tracked) (found : List Candidate) → Bounded p → TrackedWell t → SoundResult found → SearchedWell (not_passed (evidence hop w) (endpoint_of w) k p t found)
+  not_passed_well : (k : Reached) (p : Option Hypothesis) (t : Tracked) (found : List Candidate) → Bounded p → TrackedWell t → SoundResult found → SearchedWell (not_passed (evidence hop w) (endpoint_of w) k p t found)
   not_passed_well k p t found h τ r = record { lock = record { pending = held_or_dropped_lem (evidence hop w) N p found h; accepted = τ.accepted; time = end_time }; found = r; innovation = τ.innovation }
 
-  whole_well : (k : Reached) (p : Hypothesis) (t : Tracked) (found : List Candidate) → Bounded p → TrackedWell t → SoundResult found → SearchedWell (whole_searched hop (evidence hop w) (endpoint_of w) k p t found)
+  whole_well : (k : Reached) (p : Option Hypothesis) (t : Tracked) (found : List Candidate) → Bounded p → TrackedWell t → SoundResult found → SearchedWell (whole_searched hop (evidence hop w) (endpoint_of w) k p t found)
   unfolding whole_searched
   whole_well k p t [] h τ r = not_passed_well k p t [] h τ r
   whole_well k p t (best ∷ rest) h τ r =
@@ -281,13 +280,13 @@ module _ (m : Matcher) (hop : Float) (w : Window) (N : AtMost track_most (eviden
 
 -- ---- the decision
 -- The offset shown.
-pub data Offset : Maybe → Type 0 where
-  none : Offset maybe.Absent
-  shown : {o : Float} → AtMost place_most o → Offset (maybe.Is o)
+pub data Offset : Option Float → Type 0 where
+  none : Offset None
+  shown : {o : Float} → AtMost place_most o → Offset (Some o)
 
-offset_of_lem : (h : Hypothesis) → Bounded h → Offset (offset_of h)
-offset_of_lem hypothesis.Absent h = none
-offset_of_lem (hypothesis.Held o f l c) (held O F L C) = shown O.most
+offset_of_lem : (h : Option Hypothesis) → Bounded h → Offset (offset_of h)
+offset_of_lem None h = none
+offset_of_lem (Some h) (held O F L C) = shown O.most
 
 -- The numbers of a verdict; the coast is at most what a track may coast.
 pub record VerdictWell (v : Verdict) : Type 0 where
@@ -310,15 +309,17 @@ coast_most since h =
 
 off_track_lem : (x : Searched) → SearchedWell x → VerdictWell (off_track x)
 off_track_lem x y = record {
-  offset = cond_elim Offset x.reached.confirmed maybe.Absent (offset_of x.lock.pending) (λ t. none) (λ t. offset_of_lem x.lock.pending y.lock.pending);
+  offset = cond_elim Offset x.reached.confirmed None (offset_of x.lock.pending) (λ t. none) (λ t. offset_of_lem x.lock.pending y.lock.pending);
   innovation = tt;
   coast = no_coast;
 }
 
-verdict_well : (h : Hypothesis) (now : RecordedMs) (x : Searched) → Bounded h → SearchedWell x → VerdictWell (verdict_of h now x)
+verdict_well : (h : Option Hypothesis) (now : RecordedMs) (x : Searched) → Bounded h → SearchedWell x → VerdictWell (verdict_of h now x)
 unfolding verdict_of
-verdict_well hypothesis.Absent now x h y = off_track_lem x y
-verdict_well (hypothesis.Held o f l c) now x (held O F L C) y =
+verdict_well None now x h y = off_track_lem x y
+verdict_well (Some track) now x (held O F L C) y =
+    let o = track.offset_ms in
+    let l = track.last_evidence_ms in
     cond_elim VerdictWell (may_coast now l) (on_track x o (now after l)) (off_track x)
     (λ t. record { offset = shown O.most; innovation = y.innovation; coast = coast_most (now after l) t }) (λ t. off_track_lem x y)
 
@@ -328,19 +329,19 @@ pub record DecisionWell (d : Decision) : Type 0 where
   pub verdict : VerdictWell d.verdict
 
 -- Without index no window is ready.
-ready_indexed : (c : Configuration) (s : Settings) (confirmed : Bool) (w : Window) → T (is_none (readiness c s confirmed w)) → T (indexed s)
-unfolding readiness is_none
-ready_indexed c s confirmed w = cond_elim (λ (r : WithholdReason). T (is_none r) → T (indexed s)) (not (indexed s)) reason.IndexUnavailable _ (λ t h. absurd h) (λ t h. not_not (indexed s) t)
+ready_indexed : (c : Configuration) (s : Settings) (confirmed : Bool) (w : Window) → readiness c s confirmed w ≡ None → T (indexed s)
+unfolding readiness
+ready_indexed c s confirmed w = cond_elim (λ (r : Option WithholdReason). r ≡ None → T (indexed s)) (not (indexed s)) (Some reason.IndexUnavailable) _ (λ t h. none_clash h) (λ t h. not_not (indexed s) t)
 
 decide_well : (granted : Bool) (c : Configuration) (s : Settings) (m : Matcher) (w : Window) (k : Reached) (l : Lock) → AtMost track_most (evidence s.hop_ms w).0 → T (near (endpoint_of w).0) → LockBounds l → Sound s m w → DecisionWell (decide granted c s m w k l)
 unfolding decide
 decide_well granted c s m w k l N n b sound =
-    cond_elim DecisionWell (is_none (readiness c s k.confirmed w)) _ _
+    option_elim DecisionWell _ (readiness c s k.confirmed w) _
     (λ t.
     let x = ready_indexed c s k.confirmed w t in
     let y = searched_well m s.hop_ms w N n granted k l b (sound.whole x) (sound.near x) in
     record { lock = y.lock; found = y.found; verdict = verdict_well _ (evidence s.hop_ms w) _ y.lock.accepted y })
-    (λ t. record { lock = record { pending = none; accepted = none; time = b.time }; found = nothing_found; verdict = record { offset = none; innovation = tt; coast = no_coast } })
+    (λ _ _. record { lock = record { pending = none; accepted = none; time = b.time }; found = nothing_found; verdict = record { offset = none; innovation = tt; coast = no_coast } })
 
 -- ---- what the state holds after it
 far_track : T (le farthest_ms track_most)
@@ -352,27 +353,27 @@ estimate_room : T (le (farthest_ms ⊕ place_most) track_most)
 unfolding le lt eq add sum round units size span climb of_bits of_fields odd count_trailing_zeros
 estimate_room = tt
 
-estimate_valid : (t : RecordedMs) → AtMost farthest_ms t.0 → (o : Maybe) → Offset o → T (valid_estimate (estimate_at t o))
+estimate_valid : (t : RecordedMs) → AtMost farthest_ms t.0 → (o : Option Float) → Offset o → T (valid_estimate (estimate_at t o))
 unfolding valid_estimate
-estimate_valid t n maybe.Absent none = tt
-estimate_valid t n (maybe.Is o) (shown O) =
+estimate_valid t n None none = tt
+estimate_valid t n (Some o) (shown O) =
     let end = t.0 in
     and_i (track_number end) _ (within_T track_most end (at_most_wider farthest_ms track_most end far_track n))
     (and_i (track_number (end ⊕ o)) (track_number o)
     (within_T track_most (end ⊕ o) (at_most_wider (farthest_ms ⊕ place_most) track_most (end ⊕ o) estimate_room (add_at_most binary64 end o farthest_ms place_most farthest_finite tt n O)))
     (within_T track_most o (at_most_wider place_most track_most o place_track O)))
 
-stamped_once_lem : (b : Bool) (old : Milestone) (clock : ClockMs) → T (valid_milestone old) → T (finite clock.0) → T (valid_milestone (stamped_once b old clock))
+stamped_once_lem : (b : Bool) (old : Option ClockMs) (clock : ClockMs) → T (valid_milestone old) → T (finite clock.0) → T (valid_milestone (stamped_once b old clock))
 unfolding valid_milestone
 stamped_once_lem false old clock h c = h
-stamped_once_lem true milestone.Absent clock h c = c
-stamped_once_lem true (milestone.At t) clock h c = h
+stamped_once_lem true None clock h c = c
+stamped_once_lem true (Some t) clock h c = h
 
-stamped_with_final_lem : (b : Bool) (final old : Milestone) (clock : ClockMs) → T (valid_milestone old) → T (finite clock.0) → T (valid_milestone (stamped_with_final b final old clock))
+stamped_with_final_lem : (b : Bool) (final old : Option ClockMs) (clock : ClockMs) → T (valid_milestone old) → T (finite clock.0) → T (valid_milestone (stamped_with_final b final old clock))
 unfolding valid_milestone
 stamped_with_final_lem false final old clock h c = h
-stamped_with_final_lem true milestone.Absent old clock h c = c
-stamped_with_final_lem true (milestone.At t) old clock h c = h
+stamped_with_final_lem true None old clock h c = c
+stamped_with_final_lem true (Some t) old clock h c = h
 
 stamp_valid : (m : Milestones) (k : Reached) (clock : ClockMs) → T (valid_milestones m) → T (finite clock.0) → T (valid_milestones (stamp m k clock))
 unfolding valid_milestones stamp

@@ -2,12 +2,6 @@
 use Rattle.std.specs.Prelude.{Bool, true, false}
 use Rattle.engine_spec.specs.declared.types.State.{State}
 use Rattle.engine_spec.specs.declared.types.State.TheVariants as state
-use Rattle.engine_spec.specs.declared.types.WithholdReason.{WithholdReason}
-use Rattle.engine_spec.specs.declared.types.WithholdReason.TheVariants as reason
-use Rattle.engine_spec.specs.declared.types.Estimate.{Estimate}
-use Rattle.engine_spec.specs.declared.types.Estimate.TheVariants as estimate
-use Rattle.engine_spec.specs.declared.types.Milestone.{Milestone}
-use Rattle.engine_spec.specs.declared.types.Milestone.TheVariants as milestone
 use Rattle.engine_spec.specs.declared.types.Answer.{Answer}
 use Rattle.engine_spec.specs.declared.types.Answer.TheVariants as answer
 
@@ -58,31 +52,6 @@ unreachable state.Drifting = true
 unreachable state.Relocking = false
 unreachable state.Lost = false
 unreachable state.Failed = false
-
--- ---- reasons
--- No reason to withhold.
-unfoldable pub is_none : WithholdReason → Bool
-is_none reason.None = true
-is_none reason.InsufficientDuration = false
-is_none reason.InsufficientEnergy = false
-is_none reason.InsufficientActiveFrames = false
-is_none reason.InsufficientLandmarkEvidence = false
-is_none reason.WeakAlignmentPeak = false
-is_none reason.AmbiguousOffset = false
-is_none reason.UnstableTrackingResidual = false
-is_none reason.LostSignal = false
-is_none reason.DecodeFailed = false
-is_none reason.IndexUnavailable = false
-
--- ---- what may be missing
-abbrev pub is_there : Milestone → Bool
-is_there milestone.Absent = false
-is_there (milestone.At t) = true
-
--- A place is shown.
-abbrev pub estimated : Estimate → Bool
-estimated estimate.Absent = false
-estimated (estimate.At recorded reference offset) = true
 
 -- ---- answers
 -- Not a refusal and not a re-reading.

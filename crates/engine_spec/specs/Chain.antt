@@ -1,9 +1,9 @@
 -- Document 01, "The chain": passing, interruption, jump, evidence, chain and coast, and the place shown, read from windows and computed answers only. Nothing here reads the engine's state. Definitions only.
-use Rattle.std.specs.Prelude.{ℕ, zero, suc, ◌≤◌, ◌<◌, Bool, false, cond, not, ◌&&◌, ◌||◌, ◌⊎◌, ◌≡◌, T, ltb, get_or, Float}
+use Rattle.std.specs.Prelude.{ℕ, zero, suc, ◌≤◌, ◌<◌, Bool, false, cond, not, ◌&&◌, ◌||◌, ◌⊎◌, ◌≡◌, T, ltb, get_or, Float, Option, None, Some, is_none}
 use Rattle.std.specs.Float.Ieee.{le}
 use Rattle.numbers_spec.specs.Arithmetic.{◌⊖◌, zero⁺}
 use Rattle.engine_spec.specs.Thresholds.{coast_most_ms, passing_correlation, passing_margin, passing_half, chain_ms, chain_recent}
-use Rattle.engine_spec.specs.Cases.{is_none, interrupting}
+use Rattle.engine_spec.specs.Cases.{interrupting}
 use Rattle.engine_spec.specs.Windows.{Window, evidence, endpoint_of, jumps_from, ◌after◌, same_place, current}
 use Rattle.engine_spec.specs.Opening.{blank_candidate}
 use Rattle.engine_spec.specs.Lists.{Answered}
@@ -11,17 +11,14 @@ use Rattle.engine_spec.specs.declared.types.RecordedMs.{RecordedMs}
 use Rattle.engine_spec.specs.declared.types.SpectralDiagnostics.{SpectralDiagnostics}
 use Rattle.engine_spec.specs.declared.types.Diagnostics.{Diagnostics}
 use Rattle.engine_spec.specs.declared.types.Snapshot.{Snapshot}
-use Rattle.engine_spec.specs.declared.types.Maybe.{Maybe}
-use Rattle.engine_spec.specs.declared.types.Maybe.TheVariants as maybe
 use Rattle.engine_spec.specs.declared.types.Estimate.{Estimate}
-use Rattle.engine_spec.specs.declared.types.Estimate.TheVariants as estimate
 use Rattle.engine_spec.specs.declared.types.State.TheVariants as state
 
 -- ---- what one snapshot shows
 -- A margin of 0.06 or more.
-abbrev pub clear : Maybe → Bool
-clear maybe.Absent = false
-clear (maybe.Is margin) = le passing_margin margin
+abbrev pub clear : Option Float → Bool
+clear None = false
+clear (Some margin) = le passing_margin margin
 
 -- An answer passes (document 01) if it shows a whole search with correlation ≥ 0.25, margin ≥ 0.06 and both halves ≥ 0.10.
 unfoldable pub passes : Snapshot → Bool
@@ -32,19 +29,19 @@ passes s =
     && (clear x.competing_peak_margin && (le passing_half x.first_half_correlation && le passing_half x.second_half_correlation)))
 
 -- The best candidate's offset, if the search found one.
-unfoldable pub best_offset : Diagnostics → Maybe
-best_offset d = cond (ltb 0 d.candidate_count) (maybe.Is (get_or d.candidates 0 blank_candidate).offset_ms) maybe.Absent
+unfoldable pub best_offset : Diagnostics → Option Float
+best_offset d = cond (ltb 0 d.candidate_count) (Some (get_or d.candidates 0 blank_candidate).offset_ms) None
 
 -- The place shown: the estimate's offset, if there is one.
-abbrev pub offset_shown : Estimate → Maybe
-offset_shown estimate.Absent = maybe.Absent
-offset_shown (estimate.At recorded reference offset) = maybe.Is offset
+abbrev pub offset_shown : Option Estimate → Option Float
+offset_shown None = None
+offset_shown (Some e) = Some e.offset_ms
 
 -- Both are there, and at most 80 apart.
-abbrev pub both_near : Maybe → Maybe → Bool
-both_near (maybe.Is a) (maybe.Is b) = same_place a b
-both_near (maybe.Is a) maybe.Absent = false
-both_near maybe.Absent b = false
+abbrev pub both_near : Option Float → Option Float → Bool
+both_near (Some a) (Some b) = same_place a b
+both_near (Some a) None = false
+both_near None b = false
 
 -- ---- the computed answers of a list, in order, counted from 0
 module _ (hop : Float) (a : ℕ → Answered) where
@@ -135,7 +132,7 @@ module _ (hop : Float) (a : ℕ → Answered) where
     pub greatest : T (le (spectral_at i).coast_ms coast_most_ms)
 
   -- ---- the place shown
-  abbrev pub place_at : ℕ → Maybe
+  abbrev pub place_at : ℕ → Option Float
   place_at i = offset_shown (shown_at i).estimate
 
   -- What an answer shows that ends a chain: Locked, no withhold reason, coast 0, and a place at most 80 from the best offset.

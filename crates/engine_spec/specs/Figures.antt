@@ -1,6 +1,6 @@
 -- Document 01's worked figures P1 to P12, as one statement. Definitions only.
 -- `fin s m (pos k)` is m × 2^k, below zero where s is true; m is odd, so that each value is written in one way.
-use Rattle.std.specs.Prelude.{true, false, ◌≡◌, pos, Float}
+use Rattle.std.specs.Prelude.{true, false, ◌≡◌, pos, Float, Some}
 use Rattle.std.specs.Float.{fin}
 use Rattle.std.specs.Float.Ieee.{lt}
 use Rattle.numbers_spec.specs.Arithmetic.{◌⊖◌, zero⁺}
@@ -12,7 +12,6 @@ use Rattle.engine_spec.specs.Refusals.{refuses, submission_refusal}
 use Rattle.engine_spec.specs.Submitting.{submit}
 use Rattle.engine_spec.specs.declared.types.RecordedMs.{RecordedMs}
 use Rattle.engine_spec.specs.declared.types.Engine.{Engine}
-use Rattle.engine_spec.specs.declared.types.Endpoint.TheVariants as endpoint
 use Rattle.engine_spec.specs.declared.types.Answer.TheVariants as answer
 
 -- 500 and 501
@@ -44,7 +43,7 @@ ms10090 = fin false 5045 (pos 1)
 -- A submission that is not refused, at hop 20 after a last endpoint of 10,000, on an accepted timeline without a jump.
 pub record GoesOn (e : Engine) (i : Submission) : Type 0 where
   pub hop : e.settings.hop_ms ≡ twenty
-  pub last : e.last.endpoint_ms ≡ endpoint.At ms10000
+  pub last : e.last.endpoint_ms ≡ Some ms10000
   pub snapshot : e.last.has_snapshot ≡ true
   pub answered : refuses (submission_refusal e i) ≡ false
   pub accepted : accepts_timeline e.settings i.window ≡ true

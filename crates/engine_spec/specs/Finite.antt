@@ -1,35 +1,31 @@
 -- Every number of a computed snapshot is finite, so that none is a NaN. The records have a field for each field of a snapshot's structs (src/types.rt) that is an f64 or holds one, under its own words. Definitions only.
-use Rattle.std.specs.Prelude.{ℕ, ◌<◌, List, T, length, get_or}
+use Rattle.std.specs.Prelude.{ℕ, ◌<◌, List, T, length, get_or, Option, None, Some, Float}
 use Rattle.std.specs.Float.Ieee.Scale.{finite}
 use Rattle.matcher_spec.specs.Limits.{candidates_most}
 use Rattle.engine_spec.specs.Windows.{Submission}
 use Rattle.engine_spec.specs.Opening.{blank_candidate}
 use Rattle.engine_spec.specs.Lists.{answers_to, remaining, unanswered}
 use Rattle.engine_spec.specs.Guaranteed.{OfReached}
+use Rattle.engine_spec.specs.declared.types.ClockMs.{ClockMs}
 use Rattle.engine_spec.specs.declared.types.CandidateDiagnostics.{CandidateDiagnostics}
 use Rattle.engine_spec.specs.declared.types.SpectralDiagnostics.{SpectralDiagnostics}
 use Rattle.engine_spec.specs.declared.types.Snapshot.{Snapshot}
 use Rattle.engine_spec.specs.declared.types.Engine.{Engine}
-use Rattle.engine_spec.specs.declared.types.Maybe.{Maybe}
-use Rattle.engine_spec.specs.declared.types.Maybe.TheVariants as maybe
-use Rattle.engine_spec.specs.declared.types.Milestone.{Milestone}
-use Rattle.engine_spec.specs.declared.types.Milestone.TheVariants as milestone
 use Rattle.engine_spec.specs.declared.types.Estimate.{Estimate}
-use Rattle.engine_spec.specs.declared.types.Estimate.TheVariants as estimate
 
 -- ---- a snapshot's parts
 -- A number that may be missing, a milestone and an estimate: finite where they are there.
-abbrev pub FiniteMaybe : Maybe → Type 0
-FiniteMaybe maybe.Absent = Unit
-FiniteMaybe (maybe.Is x) = T (finite x)
+abbrev pub FiniteMaybe : Option Float → Type 0
+FiniteMaybe None = Unit
+FiniteMaybe (Some x) = T (finite x)
 
-abbrev pub FiniteMilestone : Milestone → Type 0
-FiniteMilestone milestone.Absent = Unit
-FiniteMilestone (milestone.At t) = T (finite t.0)
+abbrev pub FiniteMilestone : Option ClockMs → Type 0
+FiniteMilestone None = Unit
+FiniteMilestone (Some t) = T (finite t.0)
 
-abbrev pub FiniteEstimate : Estimate → Type 0
-FiniteEstimate estimate.Absent = Unit
-FiniteEstimate (estimate.At recorded reference offset) = T (finite recorded.0) × T (finite reference.0) × T (finite offset)
+abbrev pub FiniteEstimate : Option Estimate → Type 0
+FiniteEstimate None = Unit
+FiniteEstimate (Some e) = T (finite e.query_endpoint_recorded_time_ms.0) × T (finite e.reference_time_ms.0) × T (finite e.offset_ms)
 
 pub record FiniteCandidate (c : CandidateDiagnostics) : Type 0 where
   pub offset_ms : T (finite c.offset_ms)

@@ -1,5 +1,6 @@
 -- The lock guarantee (docs/GUARANTEE.md), of every list of submissions to a fresh engine. Its terms stand in specs/Chain.antt. Definitions only.
-use Rattle.std.specs.Prelude.{ℕ, ◌≤◌, ◌<◌, false, cond, not, List, [], ◌∷◌, ◌++◌, ◌≡◌, T, length, get_or, Float}
+use Rattle.std.specs.Prelude.{ℕ, ◌≤◌, ◌<◌, false, cond, not, List, [], ◌∷◌, ◌++◌, ◌≡◌, T, length, get_or, Float, Option, None, Some, is_some, is_none}
+use Rattle.std.specs.Option.{option_map_or}
 use Rattle.std.specs.Float.Ieee.{lt}
 use Rattle.std.specs.Float.Ieee.Scale.{finite}
 use Rattle.numbers_spec.specs.Arithmetic.{◌⊖◌, zero⁺, absolute}
@@ -8,24 +9,21 @@ use Rattle.matcher_spec.specs.declared.types.Candidate.{Candidate}
 use Rattle.matcher_spec.specs.Index.{Index, Matcher}
 use Rattle.matcher_spec.specs.Search.{whole_search}
 use Rattle.numbers_spec.specs.Rows.{Every, F32}
-use Rattle.engine_spec.specs.Cases.{is_none, is_there, estimated, is_computed}
+use Rattle.engine_spec.specs.Cases.{is_computed}
 use Rattle.engine_spec.specs.Windows.{Window, Submission, indexed, query, endpoint_of, rereads}
 use Rattle.matcher_spec.specs.Features.{Features}
-use Rattle.engine_spec.specs.Refusals.{refuses, index_fits, handed_refusal}
+use Rattle.engine_spec.specs.Refusals.{index_fits, handed_refusal}
 use Rattle.engine_spec.specs.Opening.{blank_candidate, opening, opened_settings, matcher_of_reference}
 use Rattle.engine_spec.specs.Publishing.{of_best, ambiguous, comparable_frames, coverage, candidate_array}
 use Rattle.engine_spec.specs.Lists.{Answered, answers_to, remaining, unanswered}
 use Rattle.engine_spec.specs.Chain.{shown_at, window_at, whole_at, EndsChain, OnChain, Coasts, Ending, Coasting, Placed}
+use Rattle.engine_spec.specs.declared.types.Refusal.{Refusal}
+use Rattle.engine_spec.specs.declared.types.RecordedMs.{RecordedMs}
 use Rattle.engine_spec.specs.declared.types.ClockMs.{ClockMs}
 use Rattle.engine_spec.specs.declared.types.Configuration.{Configuration}
 use Rattle.engine_spec.specs.declared.types.Settings.{Settings}
 use Rattle.engine_spec.specs.declared.types.Snapshot.{Snapshot}
 use Rattle.engine_spec.specs.declared.types.Engine.{Engine}
-use Rattle.engine_spec.specs.declared.types.Milestone.{Milestone}
-use Rattle.engine_spec.specs.declared.types.Milestone.TheVariants as milestone
-use Rattle.engine_spec.specs.declared.types.Endpoint.{Endpoint}
-use Rattle.engine_spec.specs.declared.types.Endpoint.TheVariants as endpoint
-use Rattle.engine_spec.specs.declared.types.Maybe.TheVariants as maybe
 use Rattle.engine_spec.specs.declared.types.State.TheVariants as state
 use Rattle.engine_spec.specs.declared.types.Answer.{Answer}
 use Rattle.engine_spec.specs.declared.types.Answer.TheVariants as answer
@@ -57,13 +55,13 @@ answers [] = []
 answers (a ∷ l) = a.answer ∷ answers l
 
 -- What is answered after a last computed window with this endpoint.
-unfoldable pub answer_to : Settings → Endpoint → Submission → Answer
-answer_to s last i = cond (refuses (handed_refusal s i)) (answer.Refused (handed_refusal s i)) (cond (rereads s last i.window) answer.Reread answer.Computed)
+unfoldable pub answer_to : Settings → Option RecordedMs → Submission → Answer
+answer_to s last i = option_map_or (λ (r : Refusal). answer.Refused r) (handed_refusal s i) (cond (rereads s last i.window) answer.Reread answer.Computed)
 
-unfoldable pub told_by : Settings → Endpoint → List Submission → List Answer
+unfoldable pub told_by : Settings → Option RecordedMs → List Submission → List Answer
 told_by s last [] = []
 told_by s last (i ∷ l) =
-    answer_to s last i ∷ told_by s (cond (is_computed (answer_to s last i)) (endpoint.At (endpoint_of i.window)) last) l
+    answer_to s last i ∷ told_by s (cond (is_computed (answer_to s last i)) (Some (endpoint_of i.window)) last) l
 
 -- ---- struck: the remaining submissions once more, under other clocks
 unfoldable pub under : List ClockMs → List Answered → List Submission
@@ -92,9 +90,9 @@ pub data Reclocked : List Submission → List Submission → Type 0 where
   next : {i : Submission} {c : ClockMs} {l k : List Submission} → T (finite c.0) → Reclocked l k → Reclocked (i ∷ l) (at_clock c i ∷ k)
 
 -- A milestone without its reading: whether it is there.
-abbrev pub unread : Milestone → Milestone
-unread milestone.Absent = milestone.Absent
-unread (milestone.At t) = milestone.At (record { 0 = zero⁺ })
+abbrev pub unread : Option ClockMs → Option ClockMs
+unread None = None
+unread (Some t) = Some (record { 0 = zero⁺ })
 
 -- A snapshot in every field but the readings that milestones carry.
 abbrev pub without_readings : Snapshot → Snapshot
@@ -130,7 +128,7 @@ pub record Shows (hop : Float) (w : Window) (found : List Candidate) (s : Snapsh
   pub count : s.diagnostics.candidate_count ≡ length found
   pub candidates : s.diagnostics.candidates ≡ candidate_array (comparable_frames hop w) (coverage w) found
   pub correlation : s.diagnostics.spectral.correlation ≡ of_best (λ (c : Candidate). c.score) found
-  pub margin : s.diagnostics.spectral.competing_peak_margin ≡ maybe.Is (margin_of found)
+  pub margin : s.diagnostics.spectral.competing_peak_margin ≡ Some (margin_of found)
   pub first_half : s.diagnostics.spectral.first_half_correlation ≡ of_best (λ (c : Candidate). c.first_half_score) found
   pub second_half : s.diagnostics.spectral.second_half_correlation ≡ of_best (λ (c : Candidate). c.second_half_score) found
   pub recent : s.diagnostics.spectral.recent_correlation ≡ of_best (λ (c : Candidate). c.recent_score) found
@@ -143,18 +141,18 @@ pub record Apart (s : Snapshot) (j k : ℕ) : Type 0 where
   pub back : lt (absolute ((get_or s.diagnostics.candidates k blank_candidate).offset_ms ⊖ (get_or s.diagnostics.candidates j blank_candidate).offset_ms)) apart_ms ≡ false
 
 module _ (hop : Float) (m : Matcher) (a : ℕ → Answered) where
-  abbrev pub final_at : ℕ → Milestone
+  abbrev pub final_at : ℕ → Option ClockMs
   final_at i = (shown_at hop a i).final_lock_elapsed_ms
 
   pub record Trusted (i : ℕ) : Type 0 where
     -- confirmed equals final
     pub same : (shown_at hop a i).confirmed_lock_elapsed_ms ≡ final_at i
     -- final is there exactly when this answer or an earlier one ends a chain
-    pub there : T (is_there (final_at i)) ⇔ ((j : ℕ) × (j ≤ i) × EndsChain hop a j)
+    pub there : T (is_some (final_at i)) ⇔ ((j : ℕ) × (j ≤ i) × EndsChain hop a j)
     -- once there it never changes
-    pub lasting : (j : ℕ) → j ≤ i → T (is_there (final_at j)) → final_at i ≡ final_at j
+    pub lasting : (j : ℕ) → j ≤ i → T (is_some (final_at j)) → final_at i ≡ final_at j
     -- a Locked answer has an estimate, and ends a chain or follows one without interruption
-    pub estimate : (shown_at hop a i).state ≡ state.Locked → T (estimated (shown_at hop a i).estimate)
+    pub estimate : (shown_at hop a i).state ≡ state.Locked → T (is_some (shown_at hop a i).estimate)
     pub locked : (shown_at hop a i).state ≡ state.Locked → OnChain hop a i
     -- its coast is its evidence time less that of the last answer, itself counted, without a withhold reason; from 0 to 1,500
     pub coast : (shown_at hop a i).state ≡ state.Locked → Coasts hop a i
@@ -163,7 +161,7 @@ module _ (hop : Float) (m : Matcher) (a : ℕ → Answered) where
     -- a Locked answer with a withhold reason shows the place of the answer before it, which is Locked too
     pub coasting : (shown_at hop a i).state ≡ state.Locked → T (not (is_none (shown_at hop a i).withhold_reason)) → Coasting hop a i
     -- a place is shown only where Locked, or Locking: there it is the best offset of the last passing answer up to it, itself counted
-    pub placed : T (estimated (shown_at hop a i).estimate) → Placed hop a i
+    pub placed : T (is_some (shown_at hop a i).estimate) → Placed hop a i
     -- a whole search shown is the matcher's, of reference, hop and window alone, in all fields
     pub searched : T (whole_at hop a i) → Shows hop (window_at hop a i) (whole_search m (query (window_at hop a i))) (shown_at hop a i)
     -- no two of its candidates lie under 750 apart
@@ -173,7 +171,7 @@ module _ (hop : Float) (m : Matcher) (a : ℕ → Answered) where
 -- What is promised of the list as a whole, by the hop that opening was given.
 pub record Promised (hop : Float) (e : Engine) (m : Matcher) (l : List Submission) : Type 0 where
   -- which are refused, re-read or computed follows from windows, clocks and buffers alone; none is refused with 7
-  pub told : answers (answers_to e l) ≡ told_by e.settings endpoint.Absent l
+  pub told : answers (answers_to e l) ≡ told_by e.settings None l
   -- the remaining submissions, under any finite clocks, are again all computed, with equal snapshots in all but the readings
   pub struck : (cs : List ClockMs) → length cs ≡ length (remaining (answers_to e l)) → AllFinite cs →
       bares (answers_to e (under cs (remaining (answers_to e l)))) ≡ bares (remaining (answers_to e l))

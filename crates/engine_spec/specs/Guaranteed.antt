@@ -1,5 +1,5 @@
 -- What is proved of every state that a fresh engine reaches, besides the guarantee. Definitions only.
-use Rattle.std.specs.Prelude.{ℕ, ◌-◌, ◌≤◌, ◌<◌, true, false, cond, List, [], ◌∷◌, ◌≡◌, T, length, get_or, Float}
+use Rattle.std.specs.Prelude.{ℕ, ◌-◌, ◌≤◌, ◌<◌, true, false, cond, List, [], ◌∷◌, ◌≡◌, T, length, get_or, Float, Option, None, Some}
 use Rattle.numbers_spec.specs.Rows.{Every, F32}
 use Rattle.matcher_spec.specs.Limits.{candidates_most}
 use Rattle.matcher_spec.specs.Index.{Index}
@@ -16,8 +16,6 @@ use Rattle.engine_spec.specs.declared.types.Configuration.{Configuration}
 use Rattle.engine_spec.specs.declared.types.Engine.{Engine}
 use Rattle.engine_spec.specs.declared.types.OpenResult.{OpenResult}
 use Rattle.engine_spec.specs.declared.types.State.TheVariants as state
-use Rattle.engine_spec.specs.declared.types.Maybe.{Maybe}
-use Rattle.engine_spec.specs.declared.types.Maybe.TheVariants as maybe
 use Rattle.engine_spec.specs.declared.types.Refusal.TheVariants as refusal
 use Rattle.engine_spec.specs.declared.types.Answer.TheVariants as answer
 
@@ -57,7 +55,7 @@ FewCandidates = (e : Engine) (i : Submission) → (submit e i).snapshot.diagnost
 
 -- No state, made by a caller or not, has an age unless its last snapshot is Locked.
 abbrev pub AgeOfLocked : Type 0
-AgeOfLocked = (e : Engine) (x : Float) → (support_age e).coast_ms ≡ maybe.Is x → e.last.snapshot.state ≡ state.Locked
+AgeOfLocked = (e : Engine) (x : Float) → (support_age e).coast_ms ≡ Some x → e.last.snapshot.state ≡ state.Locked
 
 -- ---- what the last computed answer of a list leaves
 abbrev pub last_of : List Answered → Answered
@@ -72,14 +70,14 @@ abbrev pub Rereadings : Type 0
 Rereadings = OfReached (λ (e : Engine) (l : List Submission). (i : Submission) → (submit (engine_after e l) i).answer ≡ answer.Reread → ReadAgain e l i)
 
 -- The support age of the state after the list l: the coast of the last computed answer where that is Locked, else nothing.
-abbrev pub age_left : List Answered → Maybe
-age_left [] = maybe.Absent
+abbrev pub age_left : List Answered → Option Float
+age_left [] = None
 age_left (a ∷ l) =
     let s = (last_of (a ∷ l)).snapshot in
-    cond (is_locked s.state) (maybe.Is s.diagnostics.spectral.coast_ms) maybe.Absent
+    cond (is_locked s.state) (Some s.diagnostics.spectral.coast_ms) None
 
 abbrev pub SupportAges : Type 0
-SupportAges = OfReached (λ (e : Engine) (l : List Submission). support_age (engine_after e l) ≡ record { refusal = refusal.None; coast_ms = age_left (remaining (answers_to e l)) })
+SupportAges = OfReached (λ (e : Engine) (l : List Submission). support_age (engine_after e l) ≡ record { refusal = None; coast_ms = age_left (remaining (answers_to e l)) })
 
 -- ---- what opening's contract says of all that is submitted to what it opened
 -- The guarantee, that none of it is refused with 7, and that the buffers as opening leaves them are the index that the guarantee asks for. `r` is what opening gave, `filled` what the four buffers hold then.

@@ -1,5 +1,5 @@
 -- How far the place shown moves from one Locked answer to the next (document 02, "A position that can't leap"). Definitions only.
-use Rattle.std.specs.Prelude.{ℕ, suc, ◌+◌, ◌*◌, ◌^◌, ◌<◌, false, not, List, ◌≡◌, T, length, get_or, Float}
+use Rattle.std.specs.Prelude.{ℕ, suc, ◌+◌, ◌*◌, ◌^◌, ◌<◌, false, not, List, ◌≡◌, T, length, get_or, Float, Some, is_none}
 use Rattle.std.specs.Float.{binary64}
 use Rattle.std.specs.Float.Ieee.{round}
 use Rattle.std.specs.Float.Ieee.Scale.{finite}
@@ -8,7 +8,6 @@ use Rattle.numbers_spec.specs.Values.{AtMost, NotNegative, Between, Near, Beside
 use Rattle.numbers_spec.specs.Rows.{Every, F32}
 use Rattle.matcher_spec.specs.Index.{Index}
 use Rattle.matcher_spec.specs.Features.{Features}
-use Rattle.engine_spec.specs.Cases.{is_none}
 use Rattle.engine_spec.specs.Windows.{Submission}
 use Rattle.engine_spec.specs.Tracking.{gain}
 use Rattle.engine_spec.specs.Lists.{Answered, answers_to, remaining, unanswered}
@@ -17,7 +16,6 @@ use Rattle.engine_spec.specs.Opening.{opening, opened_settings, matcher_of_refer
 use Rattle.engine_spec.specs.Guarantee.{AllHanded}
 use Rattle.engine_spec.specs.declared.types.Configuration.{Configuration}
 use Rattle.engine_spec.specs.declared.types.Engine.{Engine}
-use Rattle.engine_spec.specs.declared.types.Maybe.TheVariants as maybe
 use Rattle.engine_spec.specs.declared.types.State.TheVariants as state
 use Rattle.engine_spec.specs.declared.types.Answer.TheVariants as answer
 
@@ -54,8 +52,8 @@ module _ (hop : Float) (a : ℕ → Answered) where
     pub locked : (shown_at hop a before).state ≡ state.Locked
     pub old : Float
     pub new : Float
-    pub old_is : place_at hop a before ≡ maybe.Is old
-    pub new_is : place_at hop a i ≡ maybe.Is new
+    pub old_is : place_at hop a before ≡ Some old
+    pub new_is : place_at hop a i ≡ Some new
     -- exactly,
     pub moved : Near move_most 1000 new old
     -- as f64 subtracts,
@@ -67,7 +65,7 @@ module _ (hop : Float) (a : ℕ → Answered) where
   pub record Carried (i : ℕ) : Type 0 where
     pub shifted : Shifted i
     pub best : Float
-    pub best_is : best_offset (shown_at hop a i).diagnostics ≡ maybe.Is best
+    pub best_is : best_offset (shown_at hop a i).diagnostics ≡ Some best
     pub beside : Beside outside_most 1000 shifted.old best shifted.new
     pub beside_in_f64 : AtMost (thousandths outside_most) (shifted.new ⊖ beside.place)
     -- sharper: 2 × 2 ^ -47, some 1.5 × 10 ^ -14

@@ -1,5 +1,5 @@
 -- The lock rules: whole searches, pending, and the end of a chain (engine.rs, `process`). No clock stands among them. Definitions only.
-use Rattle.std.specs.Prelude.{Bool, true, false, cond, not, ◌&&◌, ◌||◌, List, [], ◌∷◌, Float}
+use Rattle.std.specs.Prelude.{Bool, true, false, cond, not, ◌&&◌, ◌||◌, List, [], ◌∷◌, Float, Option, None, Some}
 use Rattle.std.specs.Float.Ieee.{le, lt}
 use Rattle.numbers_spec.specs.Arithmetic.{◌⊖◌, absolute, least}
 use Rattle.matcher_spec.specs.Index.{Matcher}
@@ -8,14 +8,12 @@ use Rattle.matcher_spec.specs.Candidates.{margin_of}
 use Rattle.matcher_spec.specs.declared.types.Candidate.{Candidate}
 use Rattle.engine_spec.specs.Thresholds.{same_place_ms, supported_interval_ms, search_interval_ms, passing_correlation, passing_margin, passing_half, chain_ms, chain_recent}
 use Rattle.engine_spec.specs.Windows.{Window, query, endpoint_of, evidence, ◌after◌, same_place, current}
-use Rattle.engine_spec.specs.Tracking.{Tracked, tracked}
+use Rattle.engine_spec.specs.Tracking.{hypothesis, Tracked, tracked}
 use Rattle.engine_spec.specs.Milestones.{after_passing, after_chain}
 use Rattle.engine_spec.specs.declared.types.RecordedMs.{RecordedMs}
 use Rattle.engine_spec.specs.declared.types.Reached.{Reached}
 use Rattle.engine_spec.specs.declared.types.Lock.{Lock}
-use Rattle.engine_spec.specs.declared.types.Maybe.{Maybe}
 use Rattle.engine_spec.specs.declared.types.Hypothesis.{Hypothesis}
-use Rattle.engine_spec.specs.declared.types.Hypothesis.TheVariants as hypothesis
 
 -- ---- a whole search
 -- Due 500 after the last one, or 2,000 where the window supports the track.
@@ -31,12 +29,12 @@ passing (best ∷ rest) =
 
 -- ---- pending
 -- A passing search carries pending on, with its first evidence, where that is current and at the same place. Otherwise it starts anew.
-unfoldable pub first_evidence : Hypothesis → Float → RecordedMs → RecordedMs
-first_evidence hypothesis.Absent offset now = now
-first_evidence (hypothesis.Held old first last correlation) offset now = cond (same_place old offset && current now last) first now
+unfoldable pub first_evidence : Option Hypothesis → Float → RecordedMs → RecordedMs
+first_evidence None offset now = now
+first_evidence (Some old) offset now = cond (same_place old.offset_ms offset && current now old.last_evidence_ms) old.first_evidence_ms now
 
-abbrev pub started_or_carried : Hypothesis → Candidate → RecordedMs → Hypothesis
-started_or_carried pending best now = hypothesis.Held best.offset_ms (first_evidence pending best.offset_ms now) now best.score
+abbrev pub started_or_carried : Option Hypothesis → Candidate → RecordedMs → Option Hypothesis
+started_or_carried pending best now = Some (hypothesis best.offset_ms (first_evidence pending best.offset_ms now) now best.score)
 
 -- A search that doesn't pass holds pending where its best is at the same place, unambiguous, and pending current.
 unfoldable pub holds : Float → RecordedMs → List Candidate → RecordedMs → Bool
@@ -44,9 +42,9 @@ holds offset last [] now = false
 holds offset last (best ∷ rest) now = same_place best.offset_ms offset && (le passing_margin (margin_of (best ∷ rest)) && current now last)
 
 -- Otherwise it drops it.
-unfoldable pub held_or_dropped : Hypothesis → List Candidate → RecordedMs → Hypothesis
-held_or_dropped hypothesis.Absent found now = hypothesis.Absent
-held_or_dropped (hypothesis.Held offset first last correlation) found now = cond (holds offset last found now) (hypothesis.Held offset first last correlation) hypothesis.Absent
+unfoldable pub held_or_dropped : Option Hypothesis → List Candidate → RecordedMs → Option Hypothesis
+held_or_dropped None found now = None
+held_or_dropped (Some old) found now = cond (holds old.offset_ms old.last_evidence_ms found now) (Some old) None
 
 -- ---- the end of a chain
 -- 1,000 less a hop of fresh evidence, and recent support. The window's length is no further condition.
@@ -54,12 +52,12 @@ unfoldable pub confirms : Float → RecordedMs → RecordedMs → Candidate → 
 confirms hop first now best = le (chain_ms ⊖ hop) (now after first) && le chain_recent best.recent_score
 
 -- A track at the end of a chain: kept where the window supports it at the chain's place, else begun there.
-unfoldable pub kept_or_replaced : Hypothesis → Bool → Candidate → RecordedMs → Hypothesis
-kept_or_replaced hypothesis.Absent supported best now = hypothesis.Held best.offset_ms now now best.score
-kept_or_replaced (hypothesis.Held offset first last correlation) supported best now =
-    cond (lt same_place_ms (absolute (offset ⊖ best.offset_ms)) || not supported)
-    (hypothesis.Held best.offset_ms now now best.score)
-    (hypothesis.Held offset first last correlation)
+unfoldable pub kept_or_replaced : Option Hypothesis → Bool → Candidate → RecordedMs → Option Hypothesis
+kept_or_replaced None supported best now = Some (hypothesis best.offset_ms now now best.score)
+kept_or_replaced (Some track) supported best now =
+    cond (lt same_place_ms (absolute (track.offset_ms ⊖ best.offset_ms)) || not supported)
+    (Some (hypothesis best.offset_ms now now best.score))
+    (Some track)
 
 -- ---- the searches of one window
 -- What they leave: the lock, which milestones are there, whether a whole search was made, what the last search found, whether the window supports the track, and how far the local best lay from it.
@@ -69,15 +67,15 @@ pub record Searched : Type 0 where
   pub global : Bool
   pub found : List Candidate
   pub supported : Bool
-  pub innovation : Maybe
+  pub innovation : Option Float
 
-abbrev pub lock_of : Hypothesis → Hypothesis → RecordedMs → Lock
+abbrev pub lock_of : Option Hypothesis → Option Hypothesis → RecordedMs → Lock
 lock_of pending accepted last = record { pending = pending; accepted = accepted; last_global_search_ms = last }
 
 -- After a passing whole search of a window with this evidence time and endpoint; its pending has this first evidence.
 unfoldable pub passed : Float → RecordedMs → RecordedMs → Reached → RecordedMs → Tracked → Candidate → List Candidate → Searched
 passed hop now endpoint k first t best rest =
-    let pending = hypothesis.Held best.offset_ms first now best.score in
+    let pending = Some (hypothesis best.offset_ms first now best.score) in
     cond (confirms hop first now best)
     (record {
       lock = lock_of pending (kept_or_replaced t.accepted t.supported best now) endpoint;
@@ -97,7 +95,7 @@ passed hop now endpoint k first t best rest =
     })
 
 -- After one that doesn't pass.
-abbrev pub not_passed : RecordedMs → RecordedMs → Reached → Hypothesis → Tracked → List Candidate → Searched
+abbrev pub not_passed : RecordedMs → RecordedMs → Reached → Option Hypothesis → Tracked → List Candidate → Searched
 not_passed now endpoint k pending t found = record {
   lock = lock_of (held_or_dropped pending found now) t.accepted endpoint;
   reached = k;
@@ -108,7 +106,7 @@ not_passed now endpoint k pending t found = record {
 }
 
 -- After a whole search that found these.
-unfoldable pub whole_searched : Float → RecordedMs → RecordedMs → Reached → Hypothesis → Tracked → List Candidate → Searched
+unfoldable pub whole_searched : Float → RecordedMs → RecordedMs → Reached → Option Hypothesis → Tracked → List Candidate → Searched
 whole_searched hop now endpoint k pending t [] = not_passed now endpoint k pending t []
 whole_searched hop now endpoint k pending t (best ∷ rest) =
     cond (passing (best ∷ rest))

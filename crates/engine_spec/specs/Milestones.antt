@@ -1,15 +1,12 @@
 -- Milestones: which are there, what brings them, and the one place where a clock reading is written (engine.rs, `process`). Definitions only.
-use Rattle.std.specs.Prelude.{Bool, true, false, cond}
-use Rattle.engine_spec.specs.Cases.{is_there}
+use Rattle.std.specs.Prelude.{Bool, true, false, cond, Option, None, Some, is_some}
 use Rattle.engine_spec.specs.declared.types.ClockMs.{ClockMs}
 use Rattle.engine_spec.specs.declared.types.Reached.{Reached}
 use Rattle.engine_spec.specs.declared.types.Milestones.{Milestones}
 use Rattle.engine_spec.specs.declared.types.Snapshot.{Snapshot}
-use Rattle.engine_spec.specs.declared.types.Milestone.{Milestone}
-use Rattle.engine_spec.specs.declared.types.Milestone.TheVariants as milestone
 
 abbrev pub no_milestones : Milestones
-no_milestones = record { first_provisional_ms = milestone.Absent; confirmed_ms = milestone.Absent; final_ms = milestone.Absent }
+no_milestones = record { first_provisional_ms = None; confirmed_ms = None; final_ms = None }
 
 -- The engine's three, as a snapshot shows them.
 abbrev pub milestones_shown : Snapshot → Milestones
@@ -21,7 +18,7 @@ milestones_shown s = record {
 
 -- ---- which are there
 abbrev pub reached_by : Milestones → Reached
-reached_by m = record { provisional = is_there m.first_provisional_ms; confirmed = is_there m.confirmed_ms; final_lock = is_there m.final_ms }
+reached_by m = record { provisional = is_some m.first_provisional_ms; confirmed = is_some m.confirmed_ms; final_lock = is_some m.final_ms }
 
 -- The first passing search brings the first milestone; the first end of a chain brings confirmed and final.
 abbrev pub after_passing : Reached → Reached
@@ -32,16 +29,16 @@ after_chain k = record { provisional = true; confirmed = cond k.final_lock k.con
 
 -- ---- and the clock
 -- A milestone that is reached keeps its reading, or takes the clock's if it has none.
-abbrev pub stamped_once : Bool → Milestone → ClockMs → Milestone
+abbrev pub stamped_once : Bool → Option ClockMs → ClockMs → Option ClockMs
 stamped_once false old clock = old
-stamped_once true milestone.Absent clock = milestone.At clock
-stamped_once true (milestone.At t) clock = milestone.At t
+stamped_once true None clock = Some clock
+stamped_once true (Some t) clock = Some t
 
 -- Confirmed takes the clock's reading together with final, even where it has one: only a state made by a caller has it before.
-abbrev pub stamped_with_final : Bool → Milestone → Milestone → ClockMs → Milestone
+abbrev pub stamped_with_final : Bool → Option ClockMs → Option ClockMs → ClockMs → Option ClockMs
 stamped_with_final false final old clock = old
-stamped_with_final true milestone.Absent old clock = milestone.At clock
-stamped_with_final true (milestone.At t) old clock = old
+stamped_with_final true None old clock = Some clock
+stamped_with_final true (Some t) old clock = old
 
 -- The one place where a clock reading is written.
 unfoldable pub stamp : Milestones → Reached → ClockMs → Milestones

@@ -1,5 +1,6 @@
 -- Opening (document 01, "What each operation refuses"; engine.rs, `Engine::new`). Definitions only.
-use Rattle.std.specs.Prelude.{Bool, true, false, cond, not, ◌&&◌, length, get_or, replicate, Float}
+use Rattle.std.specs.Prelude.{Bool, true, false, cond, not, ◌&&◌, length, get_or, replicate, Float, None}
+use Rattle.std.specs.Option.{option_map_or}
 use Rattle.std.specs.Float.{nan, inf, binary64}
 use Rattle.std.specs.Float.Ieee.{of_bits}
 use Rattle.numbers_spec.specs.Arithmetic.{zero⁺}
@@ -7,6 +8,7 @@ use Rattle.matcher_spec.specs.Index.{Index, Matcher, accepts_reference, matcher_
 use Rattle.matcher_spec.specs.Features.{Features}
 use Rattle.engine_spec.specs.Milestones.{no_milestones}
 use Rattle.engine_spec.specs.Refusals.{refuses, opening_refusal}
+use Rattle.engine_spec.specs.declared.types.Refusal.{Refusal}
 use Rattle.engine_spec.specs.declared.types.Configuration.{Configuration}
 use Rattle.engine_spec.specs.declared.types.Settings.{Settings}
 use Rattle.engine_spec.specs.declared.types.Lock.{Lock}
@@ -14,22 +16,16 @@ use Rattle.engine_spec.specs.declared.types.CandidateDiagnostics.{CandidateDiagn
 use Rattle.engine_spec.specs.declared.types.Snapshot.{Snapshot}
 use Rattle.engine_spec.specs.declared.types.Engine.{Engine}
 use Rattle.engine_spec.specs.declared.types.OpenResult.{OpenResult}
-use Rattle.engine_spec.specs.declared.types.Milestone.TheVariants as milestone
-use Rattle.engine_spec.specs.declared.types.Hypothesis.TheVariants as hypothesis
-use Rattle.engine_spec.specs.declared.types.Endpoint.TheVariants as endpoint
-use Rattle.engine_spec.specs.declared.types.Estimate.TheVariants as estimate
-use Rattle.engine_spec.specs.declared.types.Maybe.TheVariants as maybe
 use Rattle.engine_spec.specs.declared.types.State.TheVariants as state
 use Rattle.engine_spec.specs.declared.types.LockPhase.TheVariants as phase
 use Rattle.engine_spec.specs.declared.types.Stage.TheVariants as stage
 use Rattle.engine_spec.specs.declared.types.Answer.TheVariants as answer
-use Rattle.engine_spec.specs.declared.types.WithholdReason.TheVariants as reason
 use Rattle.matcher_spec.specs.Limits.{candidates_most}
 
 -- ---- nothing yet
 -- No place, and no whole search: also what a jump leaves (document 01).
 abbrev pub no_lock : Lock
-no_lock = record { pending = hypothesis.Absent; accepted = hypothesis.Absent; last_global_search_ms = record { 0 = inf true } }
+no_lock = record { pending = None; accepted = None; last_global_search_ms = record { 0 = inf true } }
 
 -- What stands behind the last candidate of a snapshot.
 abbrev pub blank_candidate : CandidateDiagnostics
@@ -41,16 +37,16 @@ blank_snapshot = record {
   state = state.Ready;
   phase = phase.None;
   stage = stage.Readiness;
-  estimate = estimate.Absent;
-  withhold_reason = reason.None;
+  estimate = None;
+  withhold_reason = None;
   confidence = zero⁺;
   diagnostics = record {
     query_duration_ms = zero⁺;
     active_frame_fraction = zero⁺;
     coarse_ambiguous = false;
     dense_margin = zero⁺;
-    offset_stability_ms = maybe.Absent;
-    track_innovation_ms = maybe.Absent;
+    offset_stability_ms = None;
+    track_innovation_ms = None;
     track_count = 0;
     offset_tracker_confirmed = false;
     offset_tracker_stable = false;
@@ -59,7 +55,7 @@ blank_snapshot = record {
     spectral = record {
       global_search = false;
       correlation = zero⁺;
-      competing_peak_margin = maybe.Absent;
+      competing_peak_margin = None;
       first_half_correlation = zero⁺;
       second_half_correlation = zero⁺;
       recent_correlation = zero⁺;
@@ -67,9 +63,9 @@ blank_snapshot = record {
       coast_ms = zero⁺;
     };
   };
-  first_provisional_lock_elapsed_ms = milestone.Absent;
-  confirmed_lock_elapsed_ms = milestone.Absent;
-  final_lock_elapsed_ms = milestone.Absent;
+  first_provisional_lock_elapsed_ms = None;
+  confirmed_lock_elapsed_ms = None;
+  final_lock_elapsed_ms = None;
 }
 
 -- ---- the configuration that a unit starts with (types.rs, `Configuration::default`): durations of 2,500 and 2,000, energies of -70 and -62, a fraction of 0.35
@@ -90,7 +86,7 @@ fresh_engine c s = record {
   settings = s;
   lock = no_lock;
   milestones = no_milestones;
-  last = record { endpoint_ms = endpoint.Absent; has_snapshot = false; snapshot = blank_snapshot };
+  last = record { endpoint_ms = None; has_snapshot = false; snapshot = blank_snapshot };
 }
 
 -- With index: the reference's counts and start.
@@ -129,9 +125,7 @@ no_engine =
 -- ---- opening
 unfoldable pub opening : Configuration → Float → Features → Index → OpenResult
 opening c hop reference x =
-    let r = opening_refusal c hop reference x in
-    cond (refuses r)
-    (record { answer = answer.Refused r; engine = no_engine })
+    option_map_or (λ (r : Refusal). record { answer = answer.Refused r; engine = no_engine }) (opening_refusal c hop reference x)
     (record { answer = answer.Opened; engine = fresh_engine c (opened_settings hop reference) })
 
 -- Whether the index is filled: not where opening is refused, and not where the reference is rejected.

@@ -1,5 +1,6 @@
 -- The decision on a window, and the snapshot that shows it (engine.rs, `process` and `publish`). Definitions only.
-use Rattle.std.specs.Prelude.{ℕ, ◌-◌, ◌*◌, Bool, false, cond, ◌&&◌, List, [], ◌∷◌, ◌++◌, length, replicate, Float}
+use Rattle.std.specs.Prelude.{ℕ, ◌-◌, ◌*◌, Bool, false, cond, ◌&&◌, List, [], ◌∷◌, ◌++◌, length, replicate, Float, Option, None, Some}
+use Rattle.std.specs.Option.{option_map_or}
 use Rattle.std.specs.Float.Ieee.{lt, eq}
 use Rattle.numbers_spec.specs.Arithmetic.{◌⊕◌, ◌⊖◌, ◌⊗◌, ◌⊘◌, zero⁺, one, at_least, count_of, magnitude}
 use Rattle.matcher_spec.specs.Centring.{context_frames}
@@ -9,7 +10,7 @@ use Rattle.matcher_spec.specs.Index.{Matcher}
 use Rattle.engine_spec.specs.Thresholds.{coast_most_ms, passing_margin, trimmed_ms}
 use Rattle.engine_spec.specs.Windows.{Window, indexed, endpoint_of, duration, evidence, ◌after◌}
 use Rattle.engine_spec.specs.Opening.{blank_candidate}
-use Rattle.engine_spec.specs.Cases.{is_none, is_publishing}
+use Rattle.engine_spec.specs.Cases.{is_publishing}
 use Rattle.engine_spec.specs.Readiness.{readiness, active_fraction}
 use Rattle.engine_spec.specs.Tracking.{may_coast}
 use Rattle.engine_spec.specs.Locking.{Searched, searched, lock_of}
@@ -24,12 +25,8 @@ use Rattle.engine_spec.specs.declared.types.SpectralDiagnostics.{SpectralDiagnos
 use Rattle.engine_spec.specs.declared.types.CandidateDiagnostics.{CandidateDiagnostics}
 use Rattle.engine_spec.specs.declared.types.Diagnostics.{Diagnostics}
 use Rattle.engine_spec.specs.declared.types.Snapshot.{Snapshot}
-use Rattle.engine_spec.specs.declared.types.Maybe.{Maybe}
-use Rattle.engine_spec.specs.declared.types.Maybe.TheVariants as maybe
 use Rattle.engine_spec.specs.declared.types.Hypothesis.{Hypothesis}
-use Rattle.engine_spec.specs.declared.types.Hypothesis.TheVariants as hypothesis
 use Rattle.engine_spec.specs.declared.types.Estimate.{Estimate}
-use Rattle.engine_spec.specs.declared.types.Estimate.TheVariants as estimate
 use Rattle.engine_spec.specs.declared.types.State.{State}
 use Rattle.engine_spec.specs.declared.types.State.TheVariants as state
 use Rattle.engine_spec.specs.declared.types.LockPhase.{LockPhase}
@@ -54,17 +51,17 @@ abbrev pub ambiguous : List Candidate → Bool
 ambiguous [] = false
 ambiguous (best ∷ rest) = lt (margin_of (best ∷ rest)) passing_margin
 
-abbrev pub offset_of : Hypothesis → Maybe
-offset_of hypothesis.Absent = maybe.Absent
-offset_of (hypothesis.Held offset first last correlation) = maybe.Is offset
+abbrev pub offset_of : Option Hypothesis → Option Float
+offset_of None = None
+offset_of (Some h) = Some h.offset_ms
 
 -- On no track: Locking with the pending place, or Relocking with none.
 abbrev pub off_track : Searched → Verdict
 off_track s = record {
   state = cond s.reached.confirmed state.Relocking state.Locking;
-  reason = cond (ambiguous s.found) reason.AmbiguousOffset reason.WeakAlignmentPeak;
-  offset = cond s.reached.confirmed maybe.Absent (offset_of s.lock.pending);
-  innovation = maybe.Absent;
+  reason = Some (cond (ambiguous s.found) reason.AmbiguousOffset reason.WeakAlignmentPeak);
+  offset = cond s.reached.confirmed None (offset_of s.lock.pending);
+  innovation = None;
   coast = zero⁺;
 }
 
@@ -72,29 +69,29 @@ off_track s = record {
 abbrev pub on_track : Searched → Float → Float → Verdict
 on_track s offset since = record {
   state = cond s.reached.final_lock state.Locked state.Confirmed;
-  reason = cond s.supported reason.None reason.WeakAlignmentPeak;
-  offset = maybe.Is offset;
+  reason = cond s.supported None (Some reason.WeakAlignmentPeak);
+  offset = Some offset;
   innovation = s.innovation;
   coast = at_least zero⁺ since;
 }
 
 -- A track is shown as long as it may coast.
-unfoldable pub verdict_of : Hypothesis → RecordedMs → Searched → Verdict
-verdict_of hypothesis.Absent now s = off_track s
-verdict_of (hypothesis.Held offset first last correlation) now s = cond (may_coast now last) (on_track s offset (now after last)) (off_track s)
+unfoldable pub verdict_of : Option Hypothesis → RecordedMs → Searched → Verdict
+verdict_of None now s = off_track s
+verdict_of (Some track) now s = cond (may_coast now track.last_evidence_ms) (on_track s track.offset_ms (now after track.last_evidence_ms)) (off_track s)
 
 -- A window that cannot be searched: the observed loss of sound is no support for the old place.
 abbrev pub unready : Settings → Reached → Lock → WithholdReason → Decision
 unready s k l r = record {
-  lock = lock_of hypothesis.Absent hypothesis.Absent l.last_global_search_ms;
+  lock = lock_of None None l.last_global_search_ms;
   reached = k;
   global = false;
   found = [];
   verdict = record {
     state = cond (indexed s) (cond k.confirmed state.Lost state.Listening) state.Failed;
-    reason = r;
-    offset = maybe.Absent;
-    innovation = maybe.Absent;
+    reason = Some r;
+    offset = None;
+    innovation = None;
     coast = zero⁺;
   };
 }
@@ -107,8 +104,7 @@ ready now s = record { lock = s.lock; reached = s.reached; global = s.global; fo
 unfoldable pub decide : Bool → Configuration → Settings → Matcher → Window → Reached → Lock → Decision
 decide granted c s m w k l =
     let hop = s.hop_ms in
-    let r = readiness c s k.confirmed w in
-    cond (is_none r) (ready (evidence hop w) (searched granted m hop w k l)) (unready s k l r)
+    option_map_or (unready s k l) (readiness c s k.confirmed w) (ready (evidence hop w) (searched granted m hop w k l))
 
 -- ---- the snapshot
 -- The best candidate's number, or 0.
@@ -116,15 +112,15 @@ abbrev pub of_best : (Candidate → Float) → List Candidate → Float
 of_best f [] = zero⁺
 of_best f (best ∷ rest) = f best
 
-unfoldable pub fresh_evidence : Hypothesis → Float
-fresh_evidence hypothesis.Absent = zero⁺
-fresh_evidence (hypothesis.Held offset first last correlation) = at_least zero⁺ (last after first)
+unfoldable pub fresh_evidence : Option Hypothesis → Float
+fresh_evidence None = zero⁺
+fresh_evidence (Some h) = at_least zero⁺ (h.last_evidence_ms after h.first_evidence_ms)
 
 abbrev pub spectral_of : Decision → SpectralDiagnostics
 spectral_of d = record {
   global_search = d.global;
   correlation = of_best (λ (c : Candidate). c.score) d.found;
-  competing_peak_margin = cond d.global (maybe.Is (margin_of d.found)) maybe.Absent;
+  competing_peak_margin = cond d.global (Some (margin_of d.found)) None;
   first_half_correlation = of_best (λ (c : Candidate). c.first_half_score) d.found;
   second_half_correlation = of_best (λ (c : Candidate). c.second_half_score) d.found;
   recent_correlation = of_best (λ (c : Candidate). c.recent_score) d.found;
@@ -157,13 +153,13 @@ candidates_shown comparable covered (c ∷ cs) = candidate_shown comparable cove
 abbrev pub candidate_array : ℕ → Float → List Candidate → List CandidateDiagnostics
 candidate_array comparable covered found = candidates_shown comparable covered found ++ replicate (candidates_most - length found) blank_candidate
 
-unfoldable pub magnitude_of : Maybe → Maybe
-magnitude_of maybe.Absent = maybe.Absent
-magnitude_of (maybe.Is x) = maybe.Is (magnitude x)
+unfoldable pub magnitude_of : Option Float → Option Float
+magnitude_of None = None
+magnitude_of (Some x) = Some (magnitude x)
 
-abbrev pub count_of_track : Hypothesis → ℕ
-count_of_track hypothesis.Absent = 0
-count_of_track (hypothesis.Held offset first last correlation) = 1
+abbrev pub count_of_track : Option Hypothesis → ℕ
+count_of_track None = 0
+count_of_track (Some track) = 1
 
 abbrev pub diagnostics_of : Configuration → Float → Window → Decision → Diagnostics
 diagnostics_of c hop w d =
@@ -190,22 +186,26 @@ abbrev pub stage_of : State → Bool → Stage
 stage_of s global = cond (is_publishing s) stage.Tracking (cond global stage.RobustVerify stage.Readiness)
 
 -- The offset added to a window's endpoint is the place on the reference.
-abbrev pub estimate_at : RecordedMs → Maybe → Estimate
-estimate_at endpoint maybe.Absent = estimate.Absent
-estimate_at endpoint (maybe.Is offset) = estimate.At endpoint (record { 0 = endpoint.0 ⊕ offset }) offset
+abbrev pub estimate_at : RecordedMs → Option Float → Option Estimate
+estimate_at endpoint None = None
+estimate_at endpoint (Some offset) = Some (record {
+  query_endpoint_recorded_time_ms = endpoint;
+  reference_time_ms = record { 0 = endpoint.0 ⊕ offset };
+  offset_ms = offset;
+})
 
-abbrev pub track_correlation : Hypothesis → Float
-track_correlation hypothesis.Absent = zero⁺
-track_correlation (hypothesis.Held offset first last correlation) = correlation
+abbrev pub track_correlation : Option Hypothesis → Float
+track_correlation None = zero⁺
+track_correlation (Some track) = track.correlation
 
 -- x brought between 0 and 1: `clamp`, which keeps -0.0.
 abbrev pub between_zero_and_one : Float → Float
 between_zero_and_one x = cond (lt x zero⁺) zero⁺ (cond (lt one x) one x)
 
 -- The correlation, less by the part of 1,500 that was coasted; 0 without an estimate.
-abbrev pub confidence_of : Maybe → Float → Float → Float
-confidence_of maybe.Absent correlation coast = zero⁺
-confidence_of (maybe.Is offset) correlation coast = between_zero_and_one (correlation ⊗ (one ⊖ coast ⊘ coast_most_ms))
+abbrev pub confidence_of : Option Float → Float → Float → Float
+confidence_of None correlation coast = zero⁺
+confidence_of (Some offset) correlation coast = between_zero_and_one (correlation ⊗ (one ⊖ coast ⊘ coast_most_ms))
 
 -- The snapshot of a decision, with the milestones' readings as they are given.
 unfoldable pub publish : Configuration → Float → Window → Decision → Milestones → Snapshot

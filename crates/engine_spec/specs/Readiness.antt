@@ -1,5 +1,5 @@
 -- Readiness: why a window cannot be searched (document 01, Engine; engine.rs, `process`). Definitions only.
-use Rattle.std.specs.Prelude.{ℕ, Bool, true, cond, not, length, get_or, Float}
+use Rattle.std.specs.Prelude.{ℕ, Bool, true, cond, not, length, get_or, Float, Option, None, Some}
 use Rattle.std.specs.Float.{nan, inf}
 use Rattle.std.specs.Float.Ieee.{lt, le}
 use Rattle.numbers_spec.specs.Arithmetic.{◌⊖◌, ◌⊗◌, ◌⊘◌, zero⁺, at_most, real}
@@ -32,12 +32,12 @@ abbrev pub minimum_duration : Configuration → Float → Bool → Float
 minimum_duration c hop confirmed =
     cond confirmed (at_most c.minimum_readiness_duration_ms (c.tracking_query_duration_ms ⊖ hop)) c.minimum_readiness_duration_ms
 
--- ---- the reasons, tried in this order
-unfoldable pub readiness : Configuration → Settings → Bool → Window → WithholdReason
+-- ---- the reasons, tried in this order; none where the window can be searched
+unfoldable pub readiness : Configuration → Settings → Bool → Window → Option WithholdReason
 readiness c s confirmed w =
-    cond (not (indexed s)) reason.IndexUnavailable
-    (cond (lt (duration w) (minimum_duration c s.hop_ms confirmed)) reason.InsufficientDuration
-    (cond (not (accepts_timeline s w)) reason.LostSignal
-    (cond (lt (average_energy w) c.minimum_average_energy_dbfs) reason.InsufficientEnergy
-    (cond (lt (active_fraction c w) c.minimum_active_frame_fraction) reason.InsufficientActiveFrames
-    reason.None))))
+    cond (not (indexed s)) (Some reason.IndexUnavailable)
+    (cond (lt (duration w) (minimum_duration c s.hop_ms confirmed)) (Some reason.InsufficientDuration)
+    (cond (not (accepts_timeline s w)) (Some reason.LostSignal)
+    (cond (lt (average_energy w) c.minimum_average_energy_dbfs) (Some reason.InsufficientEnergy)
+    (cond (lt (active_fraction c w) c.minimum_active_frame_fraction) (Some reason.InsufficientActiveFrames)
+    None))))

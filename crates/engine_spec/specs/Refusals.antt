@@ -1,5 +1,6 @@
 -- What each operation refuses, and with which number (document 01, "What each operation refuses"). Definitions only.
-use Rattle.std.specs.Prelude.{ℕ, ◌+◌, ◌*◌, ◌/◌, Bool, true, false, cond, not, ◌&&◌, ◌||◌, leb, ltb, eqb, length, Float}
+use Rattle.std.specs.Prelude.{ℕ, ◌+◌, ◌*◌, ◌/◌, Bool, true, false, cond, not, ◌&&◌, ◌||◌, leb, ltb, eqb, length, Float, Option, None, Some, is_some, ◌≡◌}
+use Rattle.std.specs.Option.{option_map_or}
 use Rattle.std.specs.Float.{inf}
 use Rattle.std.specs.Float.Ieee.{lt, le, eq, neg}
 use Rattle.std.specs.Float.Ieee.Scale.{finite}
@@ -19,14 +20,8 @@ use Rattle.engine_spec.specs.declared.types.Milestones.{Milestones}
 use Rattle.engine_spec.specs.declared.types.Snapshot.{Snapshot}
 use Rattle.engine_spec.specs.declared.types.Last.{Last}
 use Rattle.engine_spec.specs.declared.types.Engine.{Engine}
-use Rattle.engine_spec.specs.declared.types.Milestone.{Milestone}
-use Rattle.engine_spec.specs.declared.types.Milestone.TheVariants as milestone
 use Rattle.engine_spec.specs.declared.types.Hypothesis.{Hypothesis}
-use Rattle.engine_spec.specs.declared.types.Hypothesis.TheVariants as hypothesis
-use Rattle.engine_spec.specs.declared.types.Endpoint.{Endpoint}
-use Rattle.engine_spec.specs.declared.types.Endpoint.TheVariants as endpoint
 use Rattle.engine_spec.specs.declared.types.Estimate.{Estimate}
-use Rattle.engine_spec.specs.declared.types.Estimate.TheVariants as estimate
 use Rattle.engine_spec.specs.declared.types.Refusal.{Refusal}
 use Rattle.engine_spec.specs.declared.types.Refusal.TheVariants as refusal
 use Rattle.numbers_spec.specs.Rows.{every}
@@ -34,7 +29,6 @@ use Rattle.matcher_spec.specs.Limits.{hop_least, hop_most, frames_most, window_m
 
 -- ---- the numbers
 unfoldable pub number_of : Refusal → ℕ
-number_of refusal.None = 0
 number_of refusal.InvalidConfiguration = 1
 number_of refusal.HopOutOfRange = 2
 number_of refusal.ReferenceTooLarge = 3
@@ -52,16 +46,24 @@ number_of refusal.NameOutOfRange = 14
 number_of refusal.StoreTooShort = 6
 number_of refusal.NothingKept = 15
 
-abbrev pub refuses : Refusal → Bool
-refuses r = ltb 0 (number_of r)
+-- The number that a call gives back: 0 where nothing is refused.
+abbrev pub number_or_zero : Option Refusal → ℕ
+number_or_zero r = option_map_or number_of r 0
+
+abbrev pub refuses : Option Refusal → Bool
+refuses r = is_some r
+
+-- The number tells the two apart: no refusal has the number 0.
+abbrev pub RefusesByNumber : Type 0
+RefusesByNumber = (r : Option Refusal) → refuses r ≡ ltb 0 (number_or_zero r)
 
 -- The refusal where the test fails, else what comes after it.
-abbrev pub unless : Bool → Refusal → Refusal → Refusal
-unless test r rest = cond test rest r
+abbrev pub unless : Bool → Refusal → Option Refusal → Option Refusal
+unless test r rest = cond test rest (Some r)
 
 -- The first of two that refuses.
 infixr 5 ◌then◌
-abbrev pub ◌then◌ : Refusal → Refusal → Refusal
+abbrev pub ◌then◌ : Option Refusal → Option Refusal → Option Refusal
 r then rest = cond (refuses r) r rest
 
 -- ---- ranges
@@ -105,7 +107,7 @@ index_fits frames bands x =
     && (leb (bands * (frames + 1)) (length x.fine_energy) && leb (bands * (frames / reduction + 1)) (length x.coarse_energy)))
 
 -- ---- the order of opening
-unfoldable pub opening_refusal : Configuration → Float → Features → Index → Refusal
+unfoldable pub opening_refusal : Configuration → Float → Features → Index → Option Refusal
 opening_refusal c hop reference x =
     unless (valid_configuration c) refusal.InvalidConfiguration
     (unless (hop_in_range hop) refusal.HopOutOfRange
@@ -113,7 +115,7 @@ opening_refusal c hop reference x =
     (unless (eqb (length reference.values) (reference.bands * length reference.times)) refusal.ReferenceMiscounted
     (unless (every near_or_not_finite reference.times) refusal.ReferenceTimeTooFar
     (unless (index_fits (length reference.times) reference.bands x) refusal.IndexTooShort
-    refusal.None)))))
+    None)))))
 
 -- ---- 7: what a state holds
 -- Frames and bands: both 0, or neither.
@@ -129,9 +131,9 @@ valid_settings s =
 abbrev pub track_number : Float → Bool
 track_number x = within track_most x
 
-unfoldable pub valid_hypothesis : Hypothesis → Bool
-valid_hypothesis hypothesis.Absent = true
-valid_hypothesis (hypothesis.Held offset first last correlation) = track_number offset && (track_number first.0 && (track_number last.0 && track_number correlation))
+unfoldable pub valid_hypothesis : Option Hypothesis → Bool
+valid_hypothesis None = true
+valid_hypothesis (Some h) = track_number h.offset_ms && (track_number h.first_evidence_ms.0 && (track_number h.last_evidence_ms.0 && track_number h.correlation))
 
 -- The search time may be minus infinity.
 abbrev pub valid_search_time : RecordedMs → Bool
@@ -140,20 +142,20 @@ valid_search_time t = near t.0 || eq t.0 (inf true)
 unfoldable pub valid_lock : Lock → Bool
 valid_lock l = valid_hypothesis l.pending && (valid_hypothesis l.accepted && valid_search_time l.last_global_search_ms)
 
-unfoldable pub valid_milestone : Milestone → Bool
-valid_milestone milestone.Absent = true
-valid_milestone (milestone.At t) = finite t.0
+unfoldable pub valid_milestone : Option ClockMs → Bool
+valid_milestone None = true
+valid_milestone (Some t) = finite t.0
 
 unfoldable pub valid_milestones : Milestones → Bool
 valid_milestones m = valid_milestone m.first_provisional_ms && (valid_milestone m.confirmed_ms && valid_milestone m.final_ms)
 
-unfoldable pub valid_endpoint : Endpoint → Bool
-valid_endpoint endpoint.Absent = true
-valid_endpoint (endpoint.At t) = near t.0
+unfoldable pub valid_endpoint : Option RecordedMs → Bool
+valid_endpoint None = true
+valid_endpoint (Some t) = near t.0
 
-unfoldable pub valid_estimate : Estimate → Bool
-valid_estimate estimate.Absent = true
-valid_estimate (estimate.At recorded reference offset) = track_number recorded.0 && (track_number reference.0 && track_number offset)
+unfoldable pub valid_estimate : Option Estimate → Bool
+valid_estimate None = true
+valid_estimate (Some e) = track_number e.query_endpoint_recorded_time_ms.0 && (track_number e.reference_time_ms.0 && track_number e.offset_ms)
 
 -- At most 8 candidates, and the estimate and the milestones of a state.
 unfoldable pub valid_snapshot : Snapshot → Bool
@@ -169,11 +171,11 @@ valid_engine e =
     && (valid_settings e.settings && (valid_lock e.lock && (valid_milestones e.milestones && valid_last e.last)))
 
 -- ---- 6 and 8: the index and the clock
-abbrev pub lent_refusal : Settings → Index → ClockMs → Refusal
+abbrev pub lent_refusal : Settings → Index → ClockMs → Option Refusal
 lent_refusal s x clock =
     unless (index_fits s.reference_frames s.reference_bands x) refusal.IndexTooShort
     (unless (finite clock.0) refusal.ClockNotFinite
-    refusal.None)
+    None)
 
 -- ---- 9 to 12: a window alone
 unfoldable pub valid_window : Window → Bool
@@ -185,27 +187,27 @@ valid_window w =
 abbrev pub valid_energy : Float → Bool
 valid_energy x = lt x (inf false)
 
-unfoldable pub window_refusal : Window → Refusal
+unfoldable pub window_refusal : Window → Option Refusal
 window_refusal w =
     unless (ltb 0 (length w.times)) refusal.NoFrames
     (unless (leb (length w.times) window_most && leb w.bands bands_most) refusal.WindowTooLarge
     (unless (valid_window w) refusal.WindowInvalid
     (unless (every near w.times && every valid_energy w.energies) refusal.WindowTimeOutOfRange
-    refusal.None)))
+    None)))
 
 -- ---- 13: the working buffers
 -- By the window's bands and frames and the state's frames.
 unfoldable pub work_fits : ℕ → ℕ → ℕ → ℕ → ℕ → Bool
 work_fits bands frames referenceFrames room32 room64 = leb (2 * (bands * frames)) room32 && leb (3 * (bands * (frames + 1)) + referenceFrames) room64
 
-abbrev pub work_refusal : Settings → Window → ℕ → ℕ → Refusal
-work_refusal s w room32 room64 = unless (work_fits w.bands (length w.times) s.reference_frames room32 room64) refusal.WorkTooShort refusal.None
+abbrev pub work_refusal : Settings → Window → ℕ → ℕ → Option Refusal
+work_refusal s w room32 room64 = unless (work_fits w.bands (length w.times) s.reference_frames room32 room64) refusal.WorkTooShort None
 
 -- ---- the order of submission
 -- All that may be refused of what is handed in, by a state whose settings are these.
-unfoldable pub handed_refusal : Settings → Submission → Refusal
+unfoldable pub handed_refusal : Settings → Submission → Option Refusal
 handed_refusal s i = lent_refusal s i.index i.clock then window_refusal i.window then work_refusal s i.window i.room32 i.room64
 
 -- 7 first: what the state holds.
-unfoldable pub submission_refusal : Engine → Submission → Refusal
+unfoldable pub submission_refusal : Engine → Submission → Option Refusal
 submission_refusal e i = unless (valid_engine e) refusal.StateOutOfRange (handed_refusal e.settings i)

@@ -1,7 +1,8 @@
 -- Submission: refused, re-read or computed, and the next state (document 01, Engine; engine.rs, `process`). Definitions only.
-use Rattle.std.specs.Prelude.{true, cond, ◌&&◌}
+use Rattle.std.specs.Prelude.{true, cond, ◌&&◌, Option, None, Some}
+use Rattle.std.specs.Option.{option_map_or}
 use Rattle.engine_spec.specs.Windows.{Window, Submission, matcher_in, endpoint_of, jumps, rereads}
-use Rattle.engine_spec.specs.Refusals.{refuses, submission_refusal}
+use Rattle.engine_spec.specs.Refusals.{submission_refusal}
 use Rattle.engine_spec.specs.Opening.{no_lock, blank_snapshot}
 use Rattle.engine_spec.specs.Milestones.{reached_by, stamp}
 use Rattle.engine_spec.specs.Publishing.{Decision, decide, publish, estimate_at}
@@ -12,17 +13,14 @@ use Rattle.engine_spec.specs.declared.types.Milestones.{Milestones}
 use Rattle.engine_spec.specs.declared.types.Snapshot.{Snapshot}
 use Rattle.engine_spec.specs.declared.types.Engine.{Engine}
 use Rattle.engine_spec.specs.declared.types.SubmitResult.{SubmitResult}
-use Rattle.engine_spec.specs.declared.types.Maybe.TheVariants as maybe
-use Rattle.engine_spec.specs.declared.types.Endpoint.TheVariants as endpoint
 use Rattle.engine_spec.specs.declared.types.Estimate.{Estimate}
-use Rattle.engine_spec.specs.declared.types.Estimate.TheVariants as estimate
 use Rattle.engine_spec.specs.declared.types.Refusal.{Refusal}
 use Rattle.engine_spec.specs.declared.types.Answer.TheVariants as answer
 
 -- ---- a re-reading: the last snapshot with its estimate moved to this endpoint, state unchanged (document 01)
-abbrev pub moved : RecordedMs → Estimate → Estimate
-moved endpoint estimate.Absent = estimate.Absent
-moved endpoint (estimate.At recorded reference offset) = estimate_at endpoint (maybe.Is offset)
+abbrev pub moved : RecordedMs → Option Estimate → Option Estimate
+moved endpoint None = None
+moved endpoint (Some e) = estimate_at endpoint (Some e.offset_ms)
 
 -- Its milestones are those of the state.
 unfoldable pub shown_again : RecordedMs → Milestones → Snapshot → Snapshot
@@ -65,7 +63,7 @@ computed_from e w clock d =
         settings = e.settings;
         lock = d.lock;
         milestones = m;
-        last = record { endpoint_ms = endpoint.At (endpoint_of w); has_snapshot = true; snapshot = s };
+        last = record { endpoint_ms = Some (endpoint_of w); has_snapshot = true; snapshot = s };
       };
       snapshot = s;
     }
@@ -83,6 +81,4 @@ answered_from e i =
     (computed_from e w i.clock (decision_on e i))
 
 unfoldable pub submit : Engine → Submission → SubmitResult
-submit e i =
-    let r = submission_refusal e i in
-    cond (refuses r) (refused e r) (answered_from e i)
+submit e i = option_map_or (refused e) (submission_refusal e i) (answered_from e i)

@@ -1,5 +1,5 @@
 -- What is handed in: the reference, the lent index, a window, a submission; the times of a window, and what is near what. Definitions only.
-use Rattle.std.specs.Prelude.{ℕ, ◌-◌, Bool, false, not, ◌&&◌, ◌||◌, List, eqb, length, get_or, Float}
+use Rattle.std.specs.Prelude.{ℕ, ◌-◌, Bool, false, not, ◌&&◌, ◌||◌, List, eqb, length, get_or, Float, Option, None, Some}
 use Rattle.std.specs.Float.{nan}
 use Rattle.std.specs.Float.Ieee.{le, lt}
 use Rattle.numbers_spec.specs.Arithmetic.{◌⊕◌, ◌⊖◌, ◌⊗◌, two, absolute}
@@ -12,8 +12,6 @@ use Rattle.engine_spec.specs.Thresholds.{reread_ms, same_place_ms, stale_ms}
 use Rattle.engine_spec.specs.declared.types.RecordedMs.{RecordedMs}
 use Rattle.engine_spec.specs.declared.types.ClockMs.{ClockMs}
 use Rattle.engine_spec.specs.declared.types.Settings.{Settings}
-use Rattle.engine_spec.specs.declared.types.Endpoint.{Endpoint}
-use Rattle.engine_spec.specs.declared.types.Endpoint.TheVariants as endpoint
 
 -- ---- what is lent
 -- A window: a time and an energy for each frame, and values band after band.
@@ -93,10 +91,10 @@ unfoldable pub rereads_from : Settings → RecordedMs → Window → Bool
 rereads_from s last w = not (jumps_from s.hop_ms last w) && (lt (endpoint_of w after last) reread_ms && (not (indexed s) || accepts_timeline s w))
 
 -- Before the first computed window there is neither.
-abbrev pub jumps : Settings → Endpoint → Window → Bool
-jumps s endpoint.Absent w = false
-jumps s (endpoint.At last) w = jumps_from s.hop_ms last w
+abbrev pub jumps : Settings → Option RecordedMs → Window → Bool
+jumps s None w = false
+jumps s (Some last) w = jumps_from s.hop_ms last w
 
-abbrev pub rereads : Settings → Endpoint → Window → Bool
-rereads s endpoint.Absent w = false
-rereads s (endpoint.At last) w = rereads_from s last w
+abbrev pub rereads : Settings → Option RecordedMs → Window → Bool
+rereads s None w = false
+rereads s (Some last) w = rereads_from s last w

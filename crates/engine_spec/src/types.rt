@@ -1,5 +1,5 @@
-// The engine's types (types.rs, engine.rs). An `Option` is an enum that carries its numbers or
-// nothing; an array of 8 with a count stands for a `Vec` of candidates.
+// The engine's types (types.rs, engine.rs). An array of 8 with a count stands for a `Vec` of
+// candidates.
 use matcher_spec::limits::CANDIDATES_MOST;
 
 // ---- milliseconds, by what they are counted on: recorded sound, the reference, the clock
@@ -23,7 +23,7 @@ pub struct Configuration {
 }
 
 // ---- what an answer shows
-#[derive(Clone, Copy)]
+#[derive(Clone, Copy, Debug, PartialEq, Eq)]
 pub enum State {
     Ready,
     Listening,
@@ -36,15 +36,16 @@ pub enum State {
     Failed,
 }
 
-#[derive(Clone, Copy)]
+#[derive(Clone, Copy, Debug, PartialEq, Eq)]
 pub enum LockPhase {
+    // Kept: a phase of sonalign's own enum, the one before any lock, not a missing value.
     None,
     Provisional,
     Confirmed,
     Final,
 }
 
-#[derive(Clone, Copy)]
+#[derive(Clone, Copy, Debug, PartialEq, Eq)]
 pub enum Stage {
     Readiness,
     LandmarkCoarse,
@@ -54,10 +55,9 @@ pub enum Stage {
     Relock,
 }
 
-// Why no supported estimate is shown; `None` where one is.
-#[derive(Clone, Copy)]
+// Why no supported estimate is shown.
+#[derive(Clone, Copy, Debug, PartialEq, Eq)]
 pub enum WithholdReason {
-    None,
     InsufficientDuration,
     InsufficientEnergy,
     InsufficientActiveFrames,
@@ -71,33 +71,17 @@ pub enum WithholdReason {
 }
 
 #[derive(Clone, Copy)]
-pub enum Estimate {
-    Absent,
-    At {
-        query_endpoint_recorded_time_ms: RecordedMs,
-        reference_time_ms: ReferenceMs,
-        offset_ms: f64,
-    },
-}
-
-// A number that may be missing.
-#[derive(Clone, Copy)]
-pub enum Maybe {
-    Absent,
-    Is(f64),
-}
-
-#[derive(Clone, Copy)]
-pub enum Milestone {
-    Absent,
-    At(ClockMs),
+pub struct Estimate {
+    pub query_endpoint_recorded_time_ms: RecordedMs,
+    pub reference_time_ms: ReferenceMs,
+    pub offset_ms: f64,
 }
 
 #[derive(Clone, Copy)]
 pub struct SpectralDiagnostics {
     pub global_search: bool,
     pub correlation: f64,
-    pub competing_peak_margin: Maybe,
+    pub competing_peak_margin: Option<f64>,
     pub first_half_correlation: f64,
     pub second_half_correlation: f64,
     pub recent_correlation: f64,
@@ -120,8 +104,8 @@ pub struct Diagnostics {
     pub active_frame_fraction: f64,
     pub coarse_ambiguous: bool,
     pub dense_margin: f64,
-    pub offset_stability_ms: Maybe,
-    pub track_innovation_ms: Maybe,
+    pub offset_stability_ms: Option<f64>,
+    pub track_innovation_ms: Option<f64>,
     pub track_count: usize,
     pub offset_tracker_confirmed: bool,
     pub offset_tracker_stable: bool,
@@ -135,13 +119,13 @@ pub struct Snapshot {
     pub state: State,
     pub phase: LockPhase,
     pub stage: Stage,
-    pub estimate: Estimate,
-    pub withhold_reason: WithholdReason,
+    pub estimate: Option<Estimate>,
+    pub withhold_reason: Option<WithholdReason>,
     pub confidence: f64,
     pub diagnostics: Diagnostics,
-    pub first_provisional_lock_elapsed_ms: Milestone,
-    pub confirmed_lock_elapsed_ms: Milestone,
-    pub final_lock_elapsed_ms: Milestone,
+    pub first_provisional_lock_elapsed_ms: Option<ClockMs>,
+    pub confirmed_lock_elapsed_ms: Option<ClockMs>,
+    pub final_lock_elapsed_ms: Option<ClockMs>,
 }
 
 // ---- what a decision hands on
@@ -158,9 +142,9 @@ pub struct Reached {
 #[derive(Clone, Copy)]
 pub struct Verdict {
     pub state: State,
-    pub reason: WithholdReason,
-    pub offset: Maybe,
-    pub innovation: Maybe,
+    pub reason: Option<WithholdReason>,
+    pub offset: Option<f64>,
+    pub innovation: Option<f64>,
     pub coast: f64,
 }
 
@@ -176,43 +160,36 @@ pub struct Settings {
 
 // A place that sound speaks for.
 #[derive(Clone, Copy)]
-pub enum Hypothesis {
-    Absent,
-    Held {
-        offset_ms: f64,
-        first_evidence_ms: RecordedMs,
-        last_evidence_ms: RecordedMs,
-        correlation: f64,
-    },
+pub struct Hypothesis {
+    pub offset_ms: f64,
+    pub first_evidence_ms: RecordedMs,
+    pub last_evidence_ms: RecordedMs,
+    pub correlation: f64,
 }
 
 // What the lock rules carry from one computed answer to the next. The search time is minus
 // infinity before the first whole search.
 #[derive(Clone, Copy)]
 pub struct Lock {
-    pub pending: Hypothesis,
-    pub accepted: Hypothesis,
+    pub pending: Option<Hypothesis>,
+    pub accepted: Option<Hypothesis>,
     pub last_global_search_ms: RecordedMs,
 }
 
 // When the first passing search was answered, and the first end of a chain.
 #[derive(Clone, Copy)]
 pub struct Milestones {
-    pub first_provisional_ms: Milestone,
-    pub confirmed_ms: Milestone,
-    pub final_ms: Milestone,
-}
-
-#[derive(Clone, Copy)]
-pub enum Endpoint {
-    Absent,
-    At(RecordedMs),
+    pub first_provisional_ms: Option<ClockMs>,
+    pub confirmed_ms: Option<ClockMs>,
+    pub final_ms: Option<ClockMs>,
 }
 
 // The last computed window's endpoint and snapshot. Without `has_snapshot` the snapshot is none.
 #[derive(Clone, Copy)]
 pub struct Last {
-    pub endpoint_ms: Endpoint,
+    pub endpoint_ms: Option<RecordedMs>,
+    // Kept: the words of a state without the flag are given back as handed in (the C interface),
+    // which an Option would drop.
     pub has_snapshot: bool,
     pub snapshot: Snapshot,
 }
@@ -227,11 +204,10 @@ pub struct Engine {
 }
 
 // ---- what the calls give back
-// One case for each refusal, and one for none; numbers stand in specs/Refusals.antt. The last three
-// are of named places.
-#[derive(Clone, Copy)]
+// One case for each refusal; numbers stand in specs/Refusals.antt. The last three are of named
+// places.
+#[derive(Clone, Copy, Debug, PartialEq, Eq)]
 pub enum Refusal {
-    None,
     InvalidConfiguration,
     HopOutOfRange,
     ReferenceTooLarge,
@@ -276,6 +252,6 @@ pub struct SubmitResult {
 // The coast of the last computed answer, where it was Locked. Refused, or not Locked: absent.
 #[derive(Clone, Copy)]
 pub struct Age {
-    pub refusal: Refusal,
-    pub coast_ms: Maybe,
+    pub refusal: Option<Refusal>,
+    pub coast_ms: Option<f64>,
 }
