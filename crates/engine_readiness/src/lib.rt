@@ -7,7 +7,6 @@ ghost use Rattle.numbers_spec.specs.Arithmetic.{◌⊕◌, ◌⊘◌, zero⁺};
 ghost use Rattle.numbers_spec.specs.Exponential.{ten_to};
 ghost use Rattle.engine_spec.specs.Thresholds.{ten};
 ghost use Rattle.engine_spec.specs.Readiness.{active_fraction, average_energy, mean_power, minimum_duration, readiness};
-ghost use Rattle.engine_spec.specs.Cases.{is_none};
 
 use engine_spec::lent::Window;
 use engine_spec::thresholds::TEN;
@@ -84,14 +83,14 @@ fn minimum_duration(configuration: Configuration, hop: f64, confirmed: bool) -> 
     }
 }
 
-// Why the window cannot be searched, or None.
+// Why the window cannot be searched, if it cannot.
 #[tactic(auto, unfolding(engine_spec::specs::Readiness::readiness))]
 pub fn readiness(
     configuration: Configuration,
     settings: Settings,
     confirmed: bool,
     window: &Window<'_>,
-) -> WithholdReason
+) -> Option<WithholdReason>
     requires heard { 0 < length window.now.times }
     requires measured { length window.now.times ≤ length window.now.energies }
     ensures { result ≡ readiness configuration settings confirmed window.now }
@@ -99,27 +98,20 @@ pub fn readiness(
     let n = window.times.len();
     let bands = settings.reference_bands as usize;
     if settings.reference_frames == 0 {
-        return WithholdReason::IndexUnavailable;
+        return Some(WithholdReason::IndexUnavailable);
     }
     let least = minimum_duration(configuration, settings.hop_ms, confirmed);
     if window.times[n - 1] - window.times[0] < least {
-        return WithholdReason::InsufficientDuration;
+        return Some(WithholdReason::InsufficientDuration);
     }
     if !accepts_timeline(bands, settings.hop_ms, window.bands, window.times) {
-        return WithholdReason::LostSignal;
+        return Some(WithholdReason::LostSignal);
     }
     if average_energy(window) < configuration.minimum_average_energy_dbfs {
-        return WithholdReason::InsufficientEnergy;
+        return Some(WithholdReason::InsufficientEnergy);
     }
     if active_fraction(configuration, window) < configuration.minimum_active_frame_fraction {
-        return WithholdReason::InsufficientActiveFrames;
+        return Some(WithholdReason::InsufficientActiveFrames);
     }
-    WithholdReason::None
-}
-
-#[tactic(auto, unfolding(engine_spec::specs::Cases::is_none))]
-pub fn is_none(r: WithholdReason) -> bool
-    ensures { result ≡ is_none r }
-{
-    matches!(r, WithholdReason::None)
+    None
 }
