@@ -1,17 +1,14 @@
 // Readiness: why a window cannot be searched.
 #![tactic(auto)]
 
-ghost use Rattle.std.specs.Prelude.{ℕ, ◌<◌, ◌≤◌, get_or, length, ◌≡◌};
+ghost use Rattle.std.specs.Prelude.{◌<◌, ◌≤◌, Float, length, count_by, fold, ◌≡◌};
 ghost use Rattle.std.specs.Float.Ieee.{le};
-ghost use Rattle.std.specs.Float.{nan};
-ghost use Rattle.numbers_spec.specs.Rows.{sum_to, tally};
-ghost use Rattle.numbers_spec.specs.Arithmetic.{◌⊘◌};
+ghost use Rattle.numbers_spec.specs.Arithmetic.{◌⊕◌, ◌⊘◌, zero⁺};
 ghost use Rattle.numbers_spec.specs.Exponential.{ten_to};
 ghost use Rattle.engine_spec.specs.Thresholds.{ten};
-ghost use Rattle.engine_spec.specs.Readiness.{active_fraction, average_energy, minimum_duration, readiness};
-ghost use Rattle.engine_spec.specs.Lent.{window};
-ghost use Rattle.engine_spec.specs.Cases.{is_none};
+ghost use Rattle.engine_spec.specs.Readiness.{active_fraction, average_energy, mean_power, minimum_duration, readiness};
 
+use engine_spec::lent::Window;
 use engine_spec::thresholds::TEN;
 use engine_spec::types::{Configuration, Settings, WithholdReason};
 use matcher_bands::timeline::accepts_timeline;
@@ -19,71 +16,57 @@ use numbers::exponential::ten_to;
 use numbers::float::{at_most, real};
 use numbers::logarithm::log10;
 
-// How many of the first n energies reach the threshold.
-fn count_active(energies: &[f64], threshold: f64, n: usize) -> usize
-    requires { n ≤ length energies.now }
-    ensures { result ≡ tally (λ (i : ℕ). le threshold (get_or energies.now i nan)) n }
+// How many energies reach the threshold.
+fn count_active(energies: &[f64], threshold: f64) -> usize
+    ensures { result ≡ count_by (le threshold) energies.now }
 {
-    let mut active = 0usize;
-    let mut i = 0usize;
-    while i < n {
-        if energies[i] >= threshold {
-            active += 1;
-        }
-        i += 1;
-    }
-    active
+    energies.iter().filter(|e| **e >= threshold).count()
 }
 
 // The part of the frames that are active.
-pub fn active_fraction(
-    configuration: Configuration,
-    bands: usize,
-    times: &[f64],
-    energies: &[f64],
-    values: &[f32],
-) -> f64
-    requires { length times.now ≤ length energies.now }
-    ensures { result ≡ active_fraction configuration (window bands times.now energies.now values.now) }
+pub fn active_fraction(configuration: Configuration, window: &Window<'_>) -> f64
+    requires { length window.now.times ≤ length window.now.energies }
+    ensures { result ≡ active_fraction configuration window.now }
 {
-    let n = times.len();
-    let active = count_active(energies, configuration.minimum_active_frame_energy_dbfs, n);
-    real(active) / real(n)
+    let n = window.times.len();
+    let threshold = configuration.minimum_active_frame_energy_dbfs;
+    real(count_active(&window.energies[..n], threshold)) / real(n)
 }
 
-// The power 10^(energy / 10) of frame i.
-fn power_at(energies: &[f64], i: usize) -> f64
-    requires { i < length energies.now }
-    ensures { result ≡ ten_to (get_or energies.now i nan ⊘ ten) }
+// The power 10^(energy / 10).
+fn power(energy: f64) -> f64
+    ensures { result ≡ ten_to (energy ⊘ ten) }
 {
-    ten_to(energies[i] / TEN)
+    ten_to(energy / TEN)
 }
 
-// The powers of the first n frames, added in order.
-fn power_sum(energies: &[f64], n: usize) -> f64
-    requires { n ≤ length energies.now }
-    ensures { result ≡ sum_to (λ (i : ℕ). ten_to (get_or energies.now i nan ⊘ ten)) n }
+// The powers, added in order.
+fn power_sum(energies: &[f64]) -> f64
+    ensures { result ≡ fold (λ (s e : Float). s ⊕ ten_to (e ⊘ ten)) zero⁺ energies.now }
 {
-    let mut sum = 0.0f64;
-    let mut i = 0usize;
-    while i < n {
-        sum = sum + power_at(energies, i);
-        i += 1;
-    }
-    sum
+    energies.iter().fold(0.0, |sum, e| sum + power(*e))
+}
+
+// The mean power of the frames.
+fn mean_power(window: &Window<'_>) -> f64
+    requires { length window.now.times ≤ length window.now.energies }
+    ensures { result ≡ mean_power window.now }
+{
+    let n = window.times.len();
+    power_sum(&window.energies[..n]) / real(n)
 }
 
 // The mean power as an energy.
-fn average_energy(bands: usize, times: &[f64], energies: &[f64], values: &[f32]) -> f64
-    requires { length times.now ≤ length energies.now }
-    ensures { result ≡ average_energy (window bands times.now energies.now values.now) }
+#[tactic(auto, unfolding(engine_spec::specs::Readiness::average_energy))]
+fn average_energy(window: &Window<'_>) -> f64
+    requires { length window.now.times ≤ length window.now.energies }
+    ensures { result ≡ average_energy window.now }
 {
-    let n = times.len();
-    let mean = power_sum(energies, n) / real(n);
+    let mean = mean_power(window);
     if mean > 0.0 {
         TEN * log10(mean)
     } else {
-        -1.0 / 0.0
+        f64::NEG_INFINITY
     }
 }
 
@@ -100,61 +83,35 @@ fn minimum_duration(configuration: Configuration, hop: f64, confirmed: bool) -> 
     }
 }
 
-// Why the window cannot be searched, or None.
+// Why the window cannot be searched, if it cannot.
+#[tactic(auto, unfolding(engine_spec::specs::Readiness::readiness))]
 pub fn readiness(
     configuration: Configuration,
     settings: Settings,
     confirmed: bool,
-    bands: usize,
-    times: &[f64],
-    energies: &[f64],
-    values: &[f32],
-) -> WithholdReason
-    requires fact_1 { 0 < length times.now }
-    requires fact_2 { length times.now ≤ length energies.now }
-    ensures { result ≡ readiness configuration settings confirmed (window bands times.now energies.now values.now) }
+    window: &Window<'_>,
+) -> Option<WithholdReason>
+    requires heard { 0 < length window.now.times }
+    requires measured { length window.now.times ≤ length window.now.energies }
+    ensures { result ≡ readiness configuration settings confirmed window.now }
 {
-    let n = times.len();
+    let n = window.times.len();
+    let bands = settings.reference_bands as usize;
     if settings.reference_frames == 0 {
-        return WithholdReason::IndexUnavailable;
+        return Some(WithholdReason::IndexUnavailable);
     }
     let least = minimum_duration(configuration, settings.hop_ms, confirmed);
-    if times[n - 1] - times[0] < least {
-        return WithholdReason::InsufficientDuration;
+    if window.times[n - 1] - window.times[0] < least {
+        return Some(WithholdReason::InsufficientDuration);
     }
-    if !accepts_timeline(
-        settings.reference_bands as usize,
-        settings.hop_ms,
-        bands,
-        times,
-    ) {
-        return WithholdReason::LostSignal;
+    if !accepts_timeline(bands, settings.hop_ms, window.bands, window.times) {
+        return Some(WithholdReason::LostSignal);
     }
-    let average = average_energy(bands, times, energies, values);
-    if average < configuration.minimum_average_energy_dbfs {
-        return WithholdReason::InsufficientEnergy;
+    if average_energy(window) < configuration.minimum_average_energy_dbfs {
+        return Some(WithholdReason::InsufficientEnergy);
     }
-    let active = active_fraction(configuration, bands, times, energies, values);
-    if active < configuration.minimum_active_frame_fraction {
-        return WithholdReason::InsufficientActiveFrames;
+    if active_fraction(configuration, window) < configuration.minimum_active_frame_fraction {
+        return Some(WithholdReason::InsufficientActiveFrames);
     }
-    WithholdReason::None
-}
-
-pub fn is_none(r: WithholdReason) -> bool
-    ensures { result ≡ is_none r }
-{
-    match r {
-        WithholdReason::None => true,
-        WithholdReason::InsufficientDuration => false,
-        WithholdReason::InsufficientEnergy => false,
-        WithholdReason::InsufficientActiveFrames => false,
-        WithholdReason::InsufficientLandmarkEvidence => false,
-        WithholdReason::WeakAlignmentPeak => false,
-        WithholdReason::AmbiguousOffset => false,
-        WithholdReason::UnstableTrackingResidual => false,
-        WithholdReason::LostSignal => false,
-        WithholdReason::DecodeFailed => false,
-        WithholdReason::IndexUnavailable => false,
-    }
+    None
 }

@@ -1,11 +1,11 @@
 // The order of refusals.
 ghost use Rattle.std.specs.Prelude.{◌^◌, ◌<◌, ◌≤◌, length, ◌≡◌};
+ghost use Rattle.std.specs.Result.{result_err};
 ghost use Rattle.engine_spec.specs.Refusals.{handed_refusal, index_fits, lent_refusal, opening_refusal, submission_refusal, valid_window, window_refusal, work_fits};
 ghost use Rattle.engine_spec.specs.Lent.{handed};
 ghost use Rattle.matcher_spec.specs.Limits.{window_most, bands_most};
 
 use crate::ranges::{are_near, are_near_or_not_finite, are_valid_energies, is_hop};
-use crate::refusals::is_refusal;
 use crate::states::{are_counts, is_valid_configuration, is_valid_engine};
 use engine_spec::lent::Window;
 use engine_spec::types::{ClockMs, Configuration, Engine, Refusal, Settings};
@@ -30,50 +30,50 @@ fn index_fits(frames: usize, bands: usize, index: &Index<'_>) -> bool
 
 // 1 to 6, in document 01's order. Sizes are tested before any product of them.
 #[tactic(auto, unfolding(engine_spec::specs::Refusals::opening_refusal))]
-pub fn opening_refusal(
+pub fn check_opening(
     configuration: Configuration,
     hop: f64,
     reference: &Features<'_>,
     index: &Index<'_>,
-) -> Refusal
-    ensures { result ≡ opening_refusal configuration hop reference.now index.now }
+) -> Result<(), Refusal>
+    ensures { result_err result ≡ opening_refusal configuration hop reference.now index.now }
 {
     let n = reference.times.len();
     let bands = reference.bands;
     if !is_valid_configuration(configuration) {
-        return Refusal::InvalidConfiguration;
+        return Err(Refusal::InvalidConfiguration);
     }
     if !is_hop(hop) {
-        return Refusal::HopOutOfRange;
+        return Err(Refusal::HopOutOfRange);
     }
     if !are_counts(n, bands) {
-        return Refusal::ReferenceTooLarge;
+        return Err(Refusal::ReferenceTooLarge);
     }
     if reference.values.len() != bands * n {
-        return Refusal::ReferenceMiscounted;
+        return Err(Refusal::ReferenceMiscounted);
     }
     if !are_near_or_not_finite(reference.times) {
-        return Refusal::ReferenceTimeTooFar;
+        return Err(Refusal::ReferenceTimeTooFar);
     }
     if !index_fits(n, bands, index) {
-        return Refusal::IndexTooShort;
+        return Err(Refusal::IndexTooShort);
     }
-    Refusal::None
+    Ok(())
 }
 
 // 6 and 8: the index and the clock.
-fn lent_refusal(settings: Settings, index: &Index<'_>, clock: ClockMs) -> Refusal
-    ensures { result ≡ lent_refusal settings index.now clock }
+fn check_lent(settings: Settings, index: &Index<'_>, clock: ClockMs) -> Result<(), Refusal>
+    ensures { result_err result ≡ lent_refusal settings index.now clock }
 {
     let frames = settings.reference_frames as usize;
     let bands = settings.reference_bands as usize;
     if !index_fits(frames, bands, index) {
-        return Refusal::IndexTooShort;
+        return Err(Refusal::IndexTooShort);
     }
     if !is_finite(clock.0) {
-        return Refusal::ClockNotFinite;
+        return Err(Refusal::ClockNotFinite);
     }
-    Refusal::None
+    Ok(())
 }
 
 // 11: bands, lengths that agree, and values that are finite and not negative.
@@ -91,29 +91,29 @@ fn is_valid_window(window: &Window<'_>) -> bool
 
 // 9 to 12: a window alone. Sizes are tested before any product of them.
 #[tactic(auto, unfolding(engine_spec::specs::Refusals::window_refusal))]
-pub fn window_refusal(window: &Window<'_>) -> Refusal
-    ensures { result ≡ window_refusal window.now }
+pub fn check_window(window: &Window<'_>) -> Result<(), Refusal>
+    ensures { result_err result ≡ window_refusal window.now }
 {
     let n = window.times.len();
     if n == 0 {
-        return Refusal::NoFrames;
+        return Err(Refusal::NoFrames);
     }
     if WINDOW_MOST < n {
-        return Refusal::WindowTooLarge;
+        return Err(Refusal::WindowTooLarge);
     }
     if BANDS_MOST < window.bands {
-        return Refusal::WindowTooLarge;
+        return Err(Refusal::WindowTooLarge);
     }
     if !is_valid_window(window) {
-        return Refusal::WindowInvalid;
+        return Err(Refusal::WindowInvalid);
     }
     if !are_near(window.times) {
-        return Refusal::WindowTimeOutOfRange;
+        return Err(Refusal::WindowTimeOutOfRange);
     }
     if !are_valid_energies(window.energies) {
-        return Refusal::WindowTimeOutOfRange;
+        return Err(Refusal::WindowTimeOutOfRange);
     }
-    Refusal::None
+    Ok(())
 }
 
 // 13: by the window's bands and frames and the state's frames, a `u16`.
@@ -135,46 +135,39 @@ fn work_fits(
 
 // 6 and 8 to 13: what may be refused of a submission to a state with these settings.
 #[tactic(auto, unfolding(engine_spec::specs::Refusals::handed_refusal))]
-fn handed_refusal(
+fn check_handed(
     settings: Settings,
     index: &Index<'_>,
     window: &Window<'_>,
     clock: ClockMs,
     room32: usize,
     room64: usize,
-) -> Refusal
-    ensures { result ≡ handed_refusal settings (handed index.now window.now clock room32 room64) }
+) -> Result<(), Refusal>
+    ensures { result_err result ≡ handed_refusal settings (handed index.now window.now clock room32 room64) }
 {
-    let of_lent = lent_refusal(settings, index, clock);
-    if is_refusal(of_lent) {
-        return of_lent;
-    }
-    let of_window = window_refusal(window);
-    if is_refusal(of_window) {
-        return of_window;
-    }
+    check_lent(settings, index, clock)?;
+    check_window(window)?;
     let frames = settings.reference_frames as usize;
     if !work_fits(window.bands, window.times.len(), frames, room32, room64) {
-        return Refusal::WorkTooShort;
+        return Err(Refusal::WorkTooShort);
     }
-    Refusal::None
+    Ok(())
 }
 
 // 7 first: what the state holds.
 #[tactic(auto, unfolding(engine_spec::specs::Refusals::submission_refusal))]
-pub fn submission_refusal(
+pub fn check_submission(
     engine: Engine,
     index: &Index<'_>,
     window: &Window<'_>,
     clock: ClockMs,
     room32: usize,
     room64: usize,
-) -> Refusal
-    ensures { result ≡ submission_refusal engine (handed index.now window.now clock room32 room64) }
+) -> Result<(), Refusal>
+    ensures { result_err result ≡ submission_refusal engine (handed index.now window.now clock room32 room64) }
 {
     if !is_valid_engine(engine) {
-        return Refusal::StateOutOfRange;
+        return Err(Refusal::StateOutOfRange);
     }
-    let settings = engine.settings;
-    handed_refusal(settings, index, window, clock, room32, room64)
+    check_handed(engine.settings, index, window, clock, room32, room64)
 }

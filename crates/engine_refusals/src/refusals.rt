@@ -1,17 +1,16 @@
 // Refusals and their numbers.
 ghost use Rattle.std.specs.Prelude.{◌≡◌};
 ghost use Rattle.engine_spec.specs.Cases.{is_refused};
-ghost use Rattle.engine_spec.specs.Refusals.{number_of, refuses};
+ghost use Rattle.engine_spec.specs.Refusals.{number_of};
 
 use engine_spec::types::{Answer, Refusal};
 
-// The number of document 01, and 0 for none.
+// The number of document 01.
 #[tactic(auto, unfolding(engine_spec::specs::Refusals::number_of))]
 pub fn number_of(r: Refusal) -> u32
     ensures { result ≡ number_of r }
 {
     match r {
-        Refusal::None => 0,
         Refusal::InvalidConfiguration => 1,
         Refusal::HopOutOfRange => 2,
         Refusal::ReferenceTooLarge => 3,
@@ -29,13 +28,6 @@ pub fn number_of(r: Refusal) -> u32
         Refusal::StoreTooShort => 6,
         Refusal::NothingKept => 15,
     }
-}
-
-// Whatever has a number.
-pub fn is_refusal(r: Refusal) -> bool
-    ensures { result ≡ refuses r }
-{
-    0 < number_of(r)
 }
 
 #[tactic(auto, unfolding(engine_spec::specs::Cases::is_refused))]

@@ -5,8 +5,8 @@ ghost use Rattle.engine_spec.specs.Refusals.{both_or_neither, counts_in_range, v
 
 use crate::ranges::{is_hop, is_near, is_track_number};
 use engine_spec::types::{
-    Configuration, Endpoint, Engine, Estimate, Hypothesis, Last, Lock, Milestone, Milestones,
-    RecordedMs, Settings, Snapshot,
+    ClockMs, Configuration, Engine, Estimate, Hypothesis, Last, Lock, Milestones, RecordedMs,
+    Settings, Snapshot,
 };
 use matcher_spec::limits::{BANDS_MOST, CANDIDATES_MOST, FRAMES_MOST};
 use numbers::float::is_finite;
@@ -59,22 +59,14 @@ fn is_valid_settings(s: Settings) -> bool
 
 // All four numbers of a place.
 #[tactic(auto, unfolding(engine_spec::specs::Refusals::valid_hypothesis))]
-fn is_valid_hypothesis(h: Hypothesis) -> bool
+fn is_valid_hypothesis(h: Option<Hypothesis>) -> bool
     ensures { result ≡ valid_hypothesis h }
 {
-    match h {
-        Hypothesis::Absent => true,
-        Hypothesis::Held {
-            offset_ms,
-            first_evidence_ms,
-            last_evidence_ms,
-            correlation,
-        } => {
-            is_track_number(offset_ms)
-                & (is_track_number(first_evidence_ms.0)
-                    & (is_track_number(last_evidence_ms.0) & is_track_number(correlation)))
-        }
-    }
+    h.is_none_or(|h| {
+        is_track_number(h.offset_ms)
+            & (is_track_number(h.first_evidence_ms.0)
+                & (is_track_number(h.last_evidence_ms.0) & is_track_number(h.correlation)))
+    })
 }
 
 // The search time may be minus infinity.
@@ -97,13 +89,10 @@ fn is_valid_lock(l: Lock) -> bool
 
 // A reading is finite, however large.
 #[tactic(auto, unfolding(engine_spec::specs::Refusals::valid_milestone))]
-fn is_valid_milestone(m: Milestone) -> bool
+fn is_valid_milestone(m: Option<ClockMs>) -> bool
     ensures { result ≡ valid_milestone m }
 {
-    match m {
-        Milestone::Absent => true,
-        Milestone::At(t) => is_finite(t.0),
-    }
+    m.is_none_or(|t| is_finite(t.0))
 }
 
 // All three.
@@ -119,31 +108,21 @@ fn are_valid_milestones(m: Milestones) -> bool
 
 // The last computed window's endpoint.
 #[tactic(auto, unfolding(engine_spec::specs::Refusals::valid_endpoint))]
-fn is_valid_endpoint(e: Endpoint) -> bool
+fn is_valid_endpoint(e: Option<RecordedMs>) -> bool
     ensures { result ≡ valid_endpoint e }
 {
-    match e {
-        Endpoint::Absent => true,
-        Endpoint::At(t) => is_near(t.0),
-    }
+    e.is_none_or(|t| is_near(t.0))
 }
 
 // All three numbers of an estimate.
 #[tactic(auto, unfolding(engine_spec::specs::Refusals::valid_estimate))]
-fn is_valid_estimate(e: Estimate) -> bool
+fn is_valid_estimate(e: Option<Estimate>) -> bool
     ensures { result ≡ valid_estimate e }
 {
-    match e {
-        Estimate::Absent => true,
-        Estimate::At {
-            query_endpoint_recorded_time_ms,
-            reference_time_ms,
-            offset_ms,
-        } => {
-            is_track_number(query_endpoint_recorded_time_ms.0)
-                & (is_track_number(reference_time_ms.0) & is_track_number(offset_ms))
-        }
-    }
+    e.is_none_or(|e| {
+        is_track_number(e.query_endpoint_recorded_time_ms.0)
+            & (is_track_number(e.reference_time_ms.0) & is_track_number(e.offset_ms))
+    })
 }
 
 // The milestones that a snapshot shows, as an engine holds them.

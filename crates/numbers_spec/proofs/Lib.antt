@@ -7,7 +7,7 @@ pub mod Closest
 pub mod Rooted
 pub mod Chosen
 pub mod RowLaws
-pub mod EveryLaws
+pub mod ChainLaws
 pub mod PartLaws
 pub mod Order
 pub mod Rounding

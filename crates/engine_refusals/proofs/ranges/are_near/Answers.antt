@@ -3,7 +3,7 @@ use Rattle.std.proofs.Common.{rules, tests}
 use Rattle.std.proofs.lemmas.Iterator.{YieldsList-from_slice}
 use Rattle.std.proofs.lemmas.Iterator.Search.{all_from_yields_List}
 use Rattle.engine_spec.specs.Refusals.{near}
-use Rattle.numbers_spec.proofs.EveryLaws.{every_is_all}
+use Rattle.numbers_spec.proofs.ChainLaws.{every_is_all}
 use Rattle.engine_refusals.proofs.ranges.are_near.Goals as goal
 
 pub returns : goal.returns
