@@ -1,174 +1,108 @@
 // The candidate of a range of places, which a whole and a local search share.
-ghost use Rattle.std.specs.Prelude.{◌+◌, ◌*◌, ◌<◌, ◌≤◌, drop, length, take, [], ◌≡◌};
-ghost use Rattle.matcher_spec.specs.Energy.{bands_of, whole_energies, Holds};
+ghost use Rattle.std.specs.Prelude.{◌+◌, ◌-◌, ◌<◌, ◌≤◌, length, ◌≡◌};
+ghost use Rattle.matcher_spec.specs.Energy.{whole_energies};
+ghost use Rattle.matcher_spec.specs.Lent.{bands_in};
+ghost use Rattle.matcher_spec.specs.Limits.{bands_most, frames_most};
 ghost use Rattle.matcher_spec.specs.Scores.{correlations};
-ghost use Rattle.matcher_spec.specs.Search.{candidate_in, candidate_of, clamped, fraction, vertex, QueryFits};
-ghost use Rattle.matcher_spec.specs.Limits.{frames_most, bands_most};
+ghost use Rattle.matcher_spec.specs.Search.{candidate_in, candidate_of, fraction, vertex};
 
+use crate::comparison::Comparison;
 use matcher_bands::energy::whole_energies;
 use matcher_picks::peaks::first_maximum;
 use matcher_scores::scores::{correlations, score_part};
 use matcher_spec::constants::RECENT_MS;
-use matcher_spec::types::{Candidate, Reference};
-use numbers::counts::saturating_sub;
+use matcher_spec::lent::Bands;
+use matcher_spec::types::Candidate;
 use numbers::float::real;
 use numbers::whole::count;
 
-// The best of the places from `low` to `high`. `work` has the query's energies at its front; the
-// scores are worked out from `at` on, and what stands before stays.
+// The best of the places from `low` to `high`. Their scores are worked out at the front of `scores`.
+#[tactic(auto, unfolding(matcher_spec::specs::Search::candidate_in))]
 pub fn best_candidate(
-    fine: &[f32],
-    energy: &[f64],
-    reference: Reference,
-    query: &[f32],
-    start: f64,
-    n: usize,
-    work: &mut [f64],
-    at: usize,
+    compared: &Comparison<'_>,
     low: usize,
     high: usize,
+    scores: &mut [f64],
 ) -> Candidate
-    requires query_fits_1 { QueryFits reference n }
-    requires query_fits_2 { low ≤ high }
-    requires query_fits_3 { high + n ≤ reference.frames }
-    requires holds { Holds reference.bands reference.frames fine.now energy.now }
-    requires n_in_bounds_1 { reference.bands * n ≤ length query.now }
-    requires n_in_bounds_2 { reference.bands * (n + 1) ≤ at }
-    requires n_in_bounds_3 { at + reference.frames ≤ length work.old }
-    ensures value { result ≡ candidate_in reference (bands_of reference.frames fine.now energy.now) (bands_of n query.now (take (reference.bands * (n + 1)) work.old)) start low high }
-    ensures work_unchanged { take at work.new ≡ take at work.old }
+    requires some { low ≤ high }
+    requires within { high + compared.now.query.count ≤ compared.now.reference.frames }
+    requires room { compared.now.reference.frames ≤ length scores.old }
+    ensures { result ≡ candidate_in compared.now.reference (bands_in compared.now.fine) (bands_in compared.now.query) compared.now.start low high }
 {
-    let front = reference.bands * (n + 1);
-    let places = high - low + 1;
-    let end = at + places;
-    score_places(
-        fine,
-        energy,
-        reference.frames,
-        query,
-        n,
-        reference.bands,
-        work,
-        0,
-        at,
-        low,
-        places,
-    );
-    candidate_of(
-        fine,
-        energy,
-        reference,
-        query,
-        &work[0..front],
-        start,
-        n,
-        &work[at..end],
-        low,
-    )
+    let places = &mut scores[..high - low + 1];
+    score_places(places, &compared.fine, &compared.query, low);
+    candidate_of(compared, places, low)
 }
 
-// The scores of `places` places from `low` on, written in `work` from `at` on; what stands before
-// stays. `work` has the query's energies from `from` on.
-pub fn score_places(
-    reference: &[f32],
-    energy: &[f64],
-    frames: usize,
-    query: &[f32],
-    n: usize,
-    bands: usize,
-    work: &mut [f64],
-    from: usize,
-    at: usize,
-    low: usize,
-    places: usize,
-)
-    requires bands_le_bands_most_1 { bands ≤ bands_most }
-    requires bands_le_bands_most_2 { frames ≤ frames_most }
-    requires bands_le_bands_most_3 { low + places + n ≤ frames + 1 }
-    requires holds { Holds bands frames reference.now energy.now }
-    requires n_in_bounds_1 { bands * n ≤ length query.now }
-    requires n_in_bounds_2 { from + bands * (n + 1) ≤ at }
-    requires n_in_bounds_3 { at + places ≤ length work.old }
-    ensures work_after { take places (drop at work.new) ≡ correlations bands (bands_of frames reference.now energy.now) n query.now (whole_energies bands (bands_of n [] (take (bands * (n + 1)) (drop from work.old)))) low places }
-    ensures work_unchanged { take at work.new ≡ take at work.old }
+// Fills `scores` with those of the places from `low` on.
+pub fn score_places(scores: &mut [f64], reference: &Bands<'_>, query: &Bands<'_>, low: usize)
+    requires same_bands { query.now.bands ≡ reference.now.bands }
+    requires few { reference.now.bands ≤ bands_most }
+    requires short { reference.now.count ≤ frames_most }
+    requires within { low + length scores.old + query.now.count ≤ reference.now.count + 1 }
+    ensures { scores.new ≡ correlations reference.now.bands (bands_in reference.now) query.now.count query.now.values.now (whole_energies query.now.bands (bands_in query.now)) low (length scores.old) }
 {
-    let past = from + bands * (n + 1);
-    let end = at + places;
-    let whole = whole_energies(&work[from..past], bands, n);
+    let whole = whole_energies(query.energy, query.bands, query.count);
     correlations(
-        &mut work[at..end],
-        reference,
-        energy,
-        frames,
-        query,
-        &whole[..bands],
-        n,
-        bands,
+        scores,
+        reference.values,
+        reference.energy,
+        reference.count,
+        query.values,
+        &whole[..query.bands],
+        query.count,
+        query.bands,
         low,
     );
 }
 
 // The candidate of the places from `low` on that score so.
-fn candidate_of(
-    fine: &[f32],
-    energy: &[f64],
-    reference: Reference,
-    query: &[f32],
-    query_energy: &[f64],
-    start: f64,
-    n: usize,
-    scores: &[f64],
-    low: usize,
-) -> Candidate
-    requires scores_nonzero_1 { 0 < length scores.now }
-    requires scores_nonzero_2 { low + length scores.now + n ≤ reference.frames + 1 }
-    requires holds { Holds reference.bands reference.frames fine.now energy.now }
-    requires holds_2 { Holds reference.bands n query.now query_energy.now }
-    ensures { result ≡ candidate_of reference (bands_of reference.frames fine.now energy.now) (bands_of n query.now query_energy.now) start low scores.now }
+fn candidate_of(compared: &Comparison<'_>, scores: &[f64], low: usize) -> Candidate
+    requires some { 0 < length scores.now }
+    requires within { low + length scores.now + compared.now.query.count ≤ compared.now.reference.frames + 1 }
+    ensures { result ≡ candidate_of compared.now.reference (bands_in compared.now.fine) (bands_in compared.now.query) compared.now.start low scores.now }
 {
-    let bands = reference.bands;
-    let frames = reference.frames;
-    let hop = reference.hop_ms;
+    let n = compared.query.count;
     let best = first_maximum(scores);
-    let peak = best.at;
-    let index = low + peak;
+    let index = low + best.at;
+    let place = real(index) + fraction_at(scores, best.at);
     let half = n / 2;
-    let recent = saturating_sub(n, count(RECENT_MS / hop));
+    let recent = n.saturating_sub(count(RECENT_MS / compared.reference.hop_ms));
     Candidate {
-        offset_ms: reference.start_ms + (real(index) + fraction_at(scores, peak)) * hop - start,
+        offset_ms: compared.reference.start_ms + place * compared.reference.hop_ms - compared.start,
         score: best.score,
         first_half_score: score_part(
-            fine,
-            energy,
-            frames,
-            query,
-            query_energy,
+            compared.fine.values,
+            compared.fine.energy,
+            compared.fine.count,
+            compared.query.values,
+            compared.query.energy,
             n,
-            bands,
+            compared.fine.bands,
             index,
             0,
             half,
         ),
         second_half_score: score_part(
-            fine,
-            energy,
-            frames,
-            query,
-            query_energy,
+            compared.fine.values,
+            compared.fine.energy,
+            compared.fine.count,
+            compared.query.values,
+            compared.query.energy,
             n,
-            bands,
+            compared.fine.bands,
             index,
             half,
             n,
         ),
         recent_score: score_part(
-            fine,
-            energy,
-            frames,
-            query,
-            query_energy,
+            compared.fine.values,
+            compared.fine.energy,
+            compared.fine.count,
+            compared.query.values,
+            compared.query.energy,
             n,
-            bands,
+            compared.fine.bands,
             index,
             recent,
             n,
@@ -177,11 +111,12 @@ fn candidate_of(
 }
 
 // How far the best place lies beside its frame.
+#[tactic(auto, unfolding(matcher_spec::specs::Search::fraction))]
 fn fraction_at(scores: &[f64], peak: usize) -> f64
     requires { peak < length scores.now }
     ensures { result ≡ fraction scores.now peak }
 {
-    if (peak > 0) & (peak + 1 < scores.len()) {
+    if peak > 0 && peak + 1 < scores.len() {
         vertex_of(scores[peak - 1], scores[peak], scores[peak + 1])
     } else {
         0.0
@@ -194,18 +129,8 @@ fn vertex_of(left: f64, centre: f64, right: f64) -> f64
 {
     let curvature = left - 2.0 * centre + right;
     if curvature < -0.000001 {
-        clamp(0.5 * (left - right) / curvature)
+        (0.5 * (left - right) / curvature).clamp(-0.5, 0.5)
     } else {
         0.0
     }
-}
-
-// x brought between -0.5 and 0.5.
-fn clamp(x: f64) -> f64
-    ensures { result ≡ clamped x }
-{
-    if x < -0.5 {
-        return -0.5;
-    }
-    if x > 0.5 { 0.5 } else { x }
 }

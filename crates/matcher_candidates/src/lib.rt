@@ -2,3 +2,4 @@
 #![tactic(auto)]
 
 pub mod candidate;
+pub mod comparison;
