@@ -10,7 +10,7 @@ use engine_decision::windows::endpoint_of;
 use engine_snapshot::publish::{estimate_at, publish};
 use engine_spec::lent::Window;
 use engine_spec::types::{
-    Answer, ClockMs, Engine, Estimate, Last, Milestones, RecordedMs, Snapshot, Submitted,
+    AnswerKind, ClockMs, Engine, Estimate, Last, Milestones, RecordedMs, Snapshot, Submitted,
 };
 
 // A re-reading: the last snapshot shown again. The engine stays as it is.
@@ -18,7 +18,7 @@ pub fn reread(engine: Engine, endpoint: RecordedMs) -> Submitted
     ensures { Ok result ≡ submitted (reread engine endpoint) }
 {
     Submitted {
-        answer: Answer::Reread,
+        answer: AnswerKind::Reread,
         engine,
         snapshot: shown_again(endpoint, engine.milestones, engine.last.snapshot),
     }
@@ -64,7 +64,7 @@ pub fn computed_from(engine: Engine, window: &Window<'_>, clock: ClockMs, d: &De
         snapshot,
     };
     Submitted {
-        answer: Answer::Computed,
+        answer: AnswerKind::Computed,
         engine: Engine {
             lock: d.lock,
             milestones,

@@ -1,13 +1,10 @@
 -- What the calls answer and write: open, submit, support age over the engine that words hold (engine_layout, `state_in`). Definitions only.
-use Rattle.std.specs.Prelude.{ℕ, ◌<◌, ◌≡◌, true, false, cond, List, ltb, drop, Float}
+use Rattle.std.specs.Prelude.{ℕ, ◌<◌, ◌≡◌, true, false, cond, List, ltb, drop, Float, Option, None, Some}
+use Rattle.std.specs.Option.{option_map_or}
 use Rattle.matcher_spec.specs.Index.{Index}
 use Rattle.engine_spec.specs.Refusals.{number_of, refuses}
 use Rattle.engine_spec.specs.declared.types.Configuration.{Configuration}
-use Rattle.engine_spec.specs.declared.types.OpenResult.{OpenResult}
-use Rattle.engine_spec.specs.declared.types.SubmitResult.{SubmitResult}
-use Rattle.engine_spec.specs.declared.types.Age.{Age}
-use Rattle.engine_spec.specs.declared.types.Maybe.{Maybe}
-use Rattle.engine_spec.specs.declared.types.Maybe.TheVariants as maybe
+use Rattle.engine_spec.specs.Results.{OpenResult, SubmitResult, Age}
 use Rattle.engine_layout.specs.Layout.{state_words, snapshot_words, state_in, snapshot_in}
 use Rattle.kistovab.specs.Codes.{words_too_short, no_age, code_of, answers}
 
@@ -50,16 +47,16 @@ pub record Submits (code : ℕ) (s : SubmitResult) (state state' snapshot snapsh
   pub shown_tail : drop snapshot_words snapshot' ≡ drop snapshot_words snapshot
 
 -- ---- support age
-unfoldable pub found_code : Maybe → ℕ
-found_code maybe.Absent = no_age
-found_code (maybe.Is x) = 0
+unfoldable pub found_code : Option Float → ℕ
+found_code None = no_age
+found_code (Some x) = 0
 
 unfoldable pub age_code : ℕ → Age → ℕ
-age_code words a = cond (ltb words state_words) words_too_short (cond (refuses a.refusal) (number_of a.refusal) (found_code a.coast_ms))
+age_code words a = cond (ltb words state_words) words_too_short (option_map_or number_of a.refusal (found_code a.coast_ms))
 
-unfoldable pub found : Maybe → Float → Float
-found maybe.Absent old = old
-found (maybe.Is x) old = x
+unfoldable pub found : Option Float → Float → Float
+found None old = old
+found (Some x) old = x
 
 -- What the lent number is after it: as it was where there is no age.
 unfoldable pub age_after : ℕ → Age → Float → Float

@@ -18,7 +18,7 @@ use engine::submitting::submit;
 use engine::support::support_age;
 use engine_refusals::refusals::number_of;
 use engine_spec::lent::Window;
-use engine_spec::types::{Answer, ClockMs, Configuration};
+use engine_spec::types::{AnswerKind, ClockMs, Configuration};
 use engine_words::snapshots::{SNAPSHOT_WORDS, write_snapshot};
 use engine_words::states::{STATE_WORDS, read_state, write_state};
 use matcher_spec::lent::{Features, Index};
@@ -125,7 +125,7 @@ pub fn kistovab_submit(
     ) {
         Ok(done) => {
             write_snapshot(snapshot, done.snapshot);
-            if done.answer == Answer::Computed {
+            if done.answer == AnswerKind::Computed {
                 write_state(state, done.engine);
             }
             code_of(done.answer)
