@@ -3,7 +3,7 @@ ghost use Rattle.std.specs.Prelude.{◌<◌, ◌≤◌, length, cond, true, ◌�
 ghost use Rattle.engine_spec.specs.Opening.{opened_index, opening, with_index, without_index};
 ghost use Rattle.engine_spec.specs.Results.{opened};
 ghost use Rattle.matcher_spec.specs.Index.{lent};
-ghost use Rattle.engine_spec.specs.Guaranteed.{Guaranteed};
+ghost use Rattle.engine_spec.specs.Guaranteed.{GuaranteedOf};
 ghost use Rattle.matcher_spec.specs.Limits.{bands_most, frames_most};
 
 use engine_answers::fresh::{fresh_engine, with_index, without_index};
@@ -27,7 +27,7 @@ pub fn open(
 ) -> Result<Engine, Refusal>
     ensures value { result ≡ opened (opening configuration hop reference.now (lent fine.old coarse.old fine_energy.old coarse_energy.old)) }
     ensures index { lent fine.new coarse.new fine_energy.new coarse_energy.new ≡ opened_index configuration hop reference.now (lent fine.old coarse.old fine_energy.old coarse_energy.old) }
-    ensures guaranteed { Guaranteed configuration hop reference.now (lent fine.new coarse.new fine_energy.new coarse_energy.new) (opening configuration hop reference.now (lent fine.old coarse.old fine_energy.old coarse_energy.old)) }
+    ensures guaranteed { GuaranteedOf configuration hop reference.now (lent fine.new coarse.new fine_energy.new coarse_energy.new) result }
 {
     let index = Index {
         fine,
