@@ -8,6 +8,7 @@ pub mod Scores
 pub mod Peaks
 pub mod Candidates
 pub mod Index
+pub mod Lent
 pub mod Search
 pub mod PeakLaws
 pub mod ResultLaws
