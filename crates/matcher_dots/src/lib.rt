@@ -3,4 +3,5 @@
 #![tactic(auto)]
 
 pub mod dot;
+pub mod sums;
 pub mod tiles;

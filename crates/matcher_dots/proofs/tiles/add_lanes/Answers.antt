@@ -1,38 +1,45 @@
-use mathlib.Core.Path.{◌≡◌, refl}
-use Prim.Native.Nat.{◌+◌}
-use native.Mathlib.Omega.{arith}
-use Rattle.numbers_spec.specs.Rows.{tabulate}
+use Rattle.std.proofs.Common.{rules, ℕ, ◌≡◌, ◌+◌, ◌*◌, ◌/◌, get_or, length, refl, ◌∙◌, arith}
+use Rattle.std.specs.Float.{nan}
+use Rattle.std.specs.Float.{binary32}
+use Rattle.std.specs.Float.Ieee.{mul}
+use Rattle.matcher_spec.specs.Energy.{zero_f32}
 use Rattle.matcher_spec.specs.Scores.{lane}
+use Rattle.numbers_spec.specs.Rows.{tabulate}
+use Rattle.numbers_spec.proofs.PartLaws.{row_at}
 use Rattle.matcher_dots.specs.Tiles.{tile}
-use Rattle.numbers_spec.proofs.PartLaws.{row_length}
-use Rattle.matcher_dots.proofs.TileLaws.{lane_row_more, added_twice}
+use Rattle.matcher_dots.proofs.TileLaws.{lane_next}
 use Rattle.matcher_dots.proofs.tiles.add_lanes.Goals as goal
 
 pub loop-k-init : goal.loop-k-init
 unfolding lane tabulate
-loop-k-init c = (omega arith, refl, refl)
-
-pub add_scaled-requires : goal.add_scaled-requires
-add_scaled-requires c = record { fact_1 = row_length _ tile c.loop-k.invariant.1; fact_2 = omega arith }
-
-pub add_scaled-requires-in-loop-k : goal.add_scaled-requires-in-loop-k
-add_scaled-requires-in-loop-k c = record { fact_1 = row_length _ tile c.loop-k.invariant.2; fact_2 = omega arith }
+loop-k-init c = record { evens = λ p h. row_at (λ q. zero_f32) tile p nan refl h; odds = λ p h. row_at (λ q. zero_f32) tile p nan refl h }
 
 pub loop-k-preserved : goal.loop-k-preserved
 loop-k-preserved c =
-    let a = c.args in
-    let inv = c.loop-k.invariant in (
-      omega arith,
-      lane_row_more a.row.now a.query.now a.j c.loop-k.k _ inv.1 c.add_scaled.ensures refl refl (omega arith),
-      lane_row_more a.row.now a.query.now (a.j + 1) c.loop-k.k _ inv.2 c.add_scaled-in-loop-k.ensures (omega arith) refl (omega arith),
-    )
-
-pub add_all-requires-2 : goal.add_all-requires-2
-add_all-requires-2 c = row_length _ tile c.add_all.ensures
+    let row = c.args.row.now in
+    let query = c.args.query.now in
+    let j = c.args.j in
+    let k = c.loop-k.k in
+    let b : ℕ = k * 8 + j in
+    let inv = c.loop-k.invariant in
+    record {
+      evens = λ p h.
+          let even = c.add_each.ensures p h in
+          let e : even.0 ≡ mul binary32 (get_or row (b + p) nan) (get_or query b nan) = search rules in
+          even.2 ∙ lane_next row query j k b p (inv.evens p h) e refl (omega arith);
+      odds = λ p h.
+          let odd = c.add_each-in-loop-k.ensures p h in
+          let e : odd.0 ≡ mul binary32 (get_or row (b + 1 + p) nan) (get_or query (b + 1) nan) = search rules in
+          odd.2 ∙ lane_next row query (j + 1) k (b + 1) p (inv.odds p h) e (omega arith) (omega arith);
+    }
 
 pub returns : goal.returns
-returns c =
-    let a = c.args in
-    let inv = c.loop-k.invariant in
-    let e : c.loop-k.k ≡ a.chunks = omega arith in
-    added_twice _ _ a.sums.now (rw e at inv.1) (rw e at inv.2) c.add_all.ensures c.add_all-2.ensures
+returns c p h =
+    let even = c.add_each-2.ensures p h in
+    let odd = c.add_each-3.ensures p h in
+    let e : even.0 ≡ get_or c.loop-k.even p nan = search rules in
+    let o : odd.0 ≡ get_or c.loop-k.odd p nan = search rules in
+    let all : c.loop-k.k ≡ length c.args.query.now / 8 = omega arith in
+    let first = rw all at c.loop-k.invariant.evens p h in
+    let second = rw all at c.loop-k.invariant.odds p h in
+    cc
