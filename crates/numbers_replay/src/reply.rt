@@ -2,30 +2,20 @@
 ghost use Rattle.std.specs.Prelude.{eqb, length, ◌≡◌};
 ghost use Rattle.std.specs.Float.{binary64};
 ghost use Rattle.std.specs.Float.Ieee.{of_bits, to_bits};
-ghost use Rattle.numbers_replay.specs.Cases.{agrees_of, line_bytes, read_of, reply_of};
+ghost use Rattle.numbers_replay.specs.Cases.{agrees_of, line_bytes, read_of};
 
 use crate::line;
-use crate::line::{Function, Read};
-use numbers::exponential::{exp, ten_to};
-use numbers::float::widen;
-use numbers::logarithm::{ln, ln_1p, log10};
-use numbers::narrow::narrow;
-use numbers::root::root;
-use numbers::whole::{ceil, floor, round};
 
 // Whether a line is well-formed and the crate's answer is the line's, bit for bit.
+#[tactic(auto, unfolding(crate::specs::Cases::agrees_of))]
 pub fn agrees(line: &[u8]) -> bool
     requires { length line.now ≡ line_bytes }
     ensures { result ≡ agrees_of (read_of line.now) }
 {
-    match line::parse(line) {
-        Read::Whole {
-            function,
-            input,
-            answer,
-        } => has_bits(reply(function, of_bits(input)), answer),
-        Read::Malformed => false,
-    }
+    let Some(case) = line::parse(line) else {
+        return false;
+    };
+    has_bits(case.function.of(of_bits(case.input)), case.answer)
 }
 
 // The f64 of a bit pattern, a NaN's included.
@@ -47,23 +37,5 @@ fn has_bits(x: f64, bits: u64) -> bool
         0x7ff8_0000_0000_0000 == bits
     } else {
         f64::to_bits(x) == bits
-    }
-}
-
-// f(x). An f32 goes in and comes out widened.
-fn reply(f: Function, x: f64) -> f64
-    ensures { result ≡ reply_of f x }
-{
-    match f {
-        Function::Round => round(x),
-        Function::Floor => floor(x),
-        Function::Ceil => ceil(x),
-        Function::Narrow => widen(narrow(x)),
-        Function::Root => root(x),
-        Function::Exp => exp(x),
-        Function::TenTo => ten_to(x),
-        Function::Ln => ln(x),
-        Function::Ln1p => widen(ln_1p(narrow(x))),
-        Function::Log10 => log10(x),
     }
 }
