@@ -5,8 +5,6 @@ ghost use Rattle.std.specs.Prelude.{◌+◌, ◌*◌, ◌≤◌, length, ◌≡�
 ghost use Rattle.std.specs.Io.KnownBytes.{Consumes, IsAtEnd};
 ghost use Rattle.hexadecimal.specs.Hexadecimal.{digit_of, digits, spaced, word_at, word_from};
 
-pub mod lines;
-
 use std::io;
 use std::io::Read;
 

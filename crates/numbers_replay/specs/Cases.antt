@@ -12,7 +12,7 @@ use Rattle.numbers_replay.specs.declared.line.Case.{Case}
 use Rattle.numbers_replay.specs.declared.line.Function.{Function}
 use Rattle.numbers_replay.specs.declared.line.Function.TheVariants as function
 use Rattle.hexadecimal.specs.Hexadecimal.{word_from}
-use Rattle.hexadecimal.specs.Lines as lists
+use Rattle.replays.specs.Lines as lists
 
 -- ---- names, padded to six bytes
 unfoldable pub function_of : List ℕ → Option Function

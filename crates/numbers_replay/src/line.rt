@@ -1,6 +1,6 @@
-// A line of the list, taken apart.
+// A line of the list, and whether the crate `numbers` agrees with it.
 ghost use Rattle.std.specs.Prelude.{length, ◌≡◌};
-ghost use Rattle.numbers_replay.specs.Cases.{function_of, line_bytes, read_of, reply_of};
+ghost use Rattle.numbers_replay.specs.Cases.{agrees_of, function_of, line_bytes, read_of, reply_of};
 
 use numbers::exponential::{exp, ten_to};
 use numbers::float::widen;
@@ -8,10 +8,24 @@ use numbers::logarithm::{ln, ln_1p, log10};
 use numbers::narrow::narrow;
 use numbers::root::root;
 use numbers::whole::{ceil, floor, round};
+use std::num::{f64_from_bits_with_nan, f64_to_bits_with_nan};
+
+// Whether a line is well-formed and the crate's answer is the line's, bit for bit.
+#[tactic(auto, unfolding(crate::specs::Cases::agrees_of))]
+pub fn agrees(line: &[u8]) -> bool
+    requires { length line.now ≡ line_bytes }
+    ensures { result ≡ agrees_of (read_of line.now) }
+{
+    let Some(case) = parse(line) else {
+        return false;
+    };
+    let reply = case.function.of(f64_from_bits_with_nan(case.input));
+    f64_to_bits_with_nan(reply) == case.answer
+}
 
 // The functions of the crate `numbers` that the list names.
 #[derive(Clone, Copy)]
-pub enum Function {
+enum Function {
     Round,
     Floor,
     Ceil,
@@ -58,7 +72,7 @@ impl Function {
 
     // f(x). An f32 goes in and comes out widened.
     #[tactic(auto, unfolding(crate::specs::Cases::reply_of))]
-    pub fn of(self, x: f64) -> f64
+    fn of(self, x: f64) -> f64
         ensures { result ≡ reply_of self x }
     {
         match self {
@@ -78,15 +92,15 @@ impl Function {
 
 // What a line says; input and answer are bit patterns.
 #[derive(Clone, Copy)]
-pub struct Case {
-    pub function: Function,
-    pub input: u64,
-    pub answer: u64,
+struct Case {
+    function: Function,
+    input: u64,
+    answer: u64,
 }
 
-// What a line says, if it is well-formed.
+// What a line says, where it is well-formed.
 #[tactic(auto, unfolding(crate::specs::Cases::read_of))]
-pub fn parse(line: &[u8]) -> Option<Case>
+fn parse(line: &[u8]) -> Option<Case>
     requires { length line.now ≡ line_bytes }
     ensures { result ≡ read_of line.now }
 {

@@ -6,13 +6,12 @@
 #![tactic(auto)]
 
 mod line;
-mod reply;
 
 ghost use Rattle.std.specs.Prelude.{length, ◌≡◌};
 ghost use Rattle.numbers_replay.specs.Cases.{agrees_of, differing, line_bytes, lines, read_of};
 
-use hexadecimal::lines::Replayed;
 use hexadecimal::{LIST, read_list};
+use replays::lines::Replayed;
 use std::io;
 use std::io::Stdout;
 
@@ -28,7 +27,7 @@ impl Replayed for Numbers {
     const LINE: usize = 41;
 
     fn agrees(&mut self, line: &[u8]) -> bool {
-        reply::agrees(line)
+        line::agrees(line)
     }
 }
 
@@ -49,5 +48,5 @@ fn main(rt: HostRuntime) -> io::Result<()> {
 fn replay(out: Stdout, list: &[u8]) -> usize
     ensures { result ≡ differing (lines list.now) list.now }
 {
-    hexadecimal::lines::replay(&mut Numbers, out, list)
+    replays::lines::replay(&mut Numbers, out, list)
 }

@@ -1,9 +1,9 @@
--- `hexadecimal::lines::replay` meets its contract: the lines passed and the lines left differ as all do. Assumes nothing.
+-- `replays::lines::replay` meets its contract: the lines passed and the lines left differ as all do. Assumes nothing.
 use Rattle.std.proofs.Common.{ℕ, ◌≡◌, ◌+◌, ◌≤◌, Bool, List}
 use Rattle.std.specs.Iterator.Adapters.{enumerate_count, enumerate_source}
 use Rattle.std.specs.Slice.Iter.{chunks_rest, chunks_size}
-use Rattle.hexadecimal.specs.Lines.{Decides, differing, lines}
-use Rattle.hexadecimal.proofs.lines.replay.Given as goal
+use Rattle.replays.specs.Lines.{Decides, differing, lines}
+use Rattle.replays.proofs.lines.replay.Given as goal
 
 abbrev pub invariant-loop-before : goal.invariant-loop-before
 invariant-loop-before g l =

@@ -1,6 +1,6 @@
 // Lists of lines that say what was answered, replayed line by line.
 ghost use Rattle.std.specs.Prelude.{ℕ, ◌≡◌, ◌<◌, ◌+◌, ◌^◌, Bool, ◌==◌, ◌&&◌, List, length};
-ghost use Rattle.hexadecimal.specs.Lines.{Decides, differing, lines};
+ghost use Rattle.replays.specs.Lines.{Decides, differing, lines};
 
 use std::io;
 use std::io::Stdout;

@@ -4,8 +4,8 @@ use Rattle.std.proofs.Math.Seq.{take-append_seam, drop-append_seam}
 use Rattle.std.proofs.Math.Nat.{add-div_right, div-eq_of_lt}
 use Rattle.std.proofs.lemmas.Bool.{cases_lt}
 use Rattle.std.proofs.lemmas.List.{nil_from_length}
-use Rattle.hexadecimal.specs.Lines.{differing, first_agrees, lines}
-use Rattle.hexadecimal.proofs.lines.replay.Goals as goal
+use Rattle.replays.specs.Lines.{differing, first_agrees, lines}
+use Rattle.replays.proofs.lines.replay.Goals as goal
 
 added : (v : Bool) (d r t : ℕ) → d + (cond v 0 1 + r) ≡ t → cond v d (d + 1) + r ≡ t
 added true d r t h = omega arith
