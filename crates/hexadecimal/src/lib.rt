@@ -1,7 +1,7 @@
 // Lists that the replays read, and hexadecimal digits, as they write their numbers.
 #![tactic(auto)]
 
-ghost use Rattle.std.specs.Prelude.{◌+◌, ◌*◌, ◌≤◌, length, ◌≡◌, ◌<◌, IfOk, take};
+ghost use Rattle.std.specs.Prelude.{◌+◌, ◌*◌, ◌≤◌, length, ◌≡◌, ◌<◌, ◌==◌, if◌then◌else◌, IfOk, take};
 ghost use Rattle.std.specs.Io.KnownBytes.{Consumes, IsAtEnd};
 ghost use Rattle.hexadecimal.specs.Hexadecimal.{digit_of, digits, spaced, word_at, word_from};
 
@@ -16,51 +16,38 @@ pub const SPACED: usize = DIGITS + 1;
 // The bytes of a list, at most. One that is longer ends in a line that is cut off.
 pub const LIST: usize = 65536;
 
-#[derive(Drop)]
-pub enum Word {
-    Is(u64),
-    Malformed,
-}
-
 // Word k of a line of words; one that is malformed counts as the largest.
+#[tactic(auto, unfolding(crate::specs::Hexadecimal::word_at, crate::specs::Hexadecimal::word_of))]
 pub fn word_at(line: &[u8], k: usize) -> u64
     requires { k * spaced + digits ≤ length line.now }
     ensures { result ≡ word_at k line.now }
 {
     let at = k * SPACED;
     let end = at + DIGITS;
-    match parse(&line[at..end]) {
-        Word::Is(word) => word,
-        Word::Malformed => 0xffff_ffff_ffff_ffff,
-    }
+    parse(&line[at..end]).unwrap_or(u64::MAX)
 }
 
 // The number that 16 lowercase hexadecimal digits write.
-pub fn parse(text: &[u8]) -> Word
+pub fn parse(text: &[u8]) -> Option<u64>
     requires { length text.now ≡ digits }
     ensures { result ≡ word_from 0 text.now }
 {
-    let mut value: u64 = 0;
-    let mut i = 0;
-    while i < text.len() {
-        let d = digit(text[i]);
-        if d == 16 {
-            return Word::Malformed;
-        }
-        value = value * 16 + d;
-        i += 1;
+    let mut value = 0;
+    for byte in text {
+        value = value * 16 + digit(*byte)?;
     }
-    Word::Is(value)
+    Some(value)
 }
 
-// A lowercase hexadecimal digit's value, and 16 for any other byte.
-fn digit(byte: u8) -> u64
-    ensures { result ≡ digit_of byte }
+// A lowercase hexadecimal digit's value.
+#[tactic(auto, unfolding(crate::specs::Hexadecimal::digit_of))]
+fn digit(byte: u8) -> Option<u64>
+    ensures { result ≡ (if digit_of byte == 16 then None else Some (digit_of byte)) }
 {
     match byte {
-        b'0'..=b'9' => (byte - b'0') as u64,
-        b'a'..=b'f' => (byte - b'a' + 10) as u64,
-        _ => 16,
+        b'0'..=b'9' => Some((byte - b'0') as u64),
+        b'a'..=b'f' => Some((byte - b'a' + 10) as u64),
+        _ => None,
     }
 }
 
@@ -71,7 +58,9 @@ pub fn read_list<R: Read>(input: &mut R, list: &mut [u8]) -> io::Result<usize>
     ensures bytes { IfOk result (λ size. Consumes (R.remaining input.old) (R.remaining input.new) (take size list.new)) }
     ensures end { IfOk result (λ size. size < length list.new → IsAtEnd (R.remaining input.new)) }
 {
-    let mut size = 0usize;
+    let mut size = 0;
+
+    // Kept: what the input gives says how many turns there are, so no `for` is plainer.
     while size < list.len() {
         let got = input.read(&mut list[size..])?;
         if got == 0 {

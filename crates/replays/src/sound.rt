@@ -1,0 +1,23 @@
+// Values and times from a few numbers, so that a list of cases stays short. The driver in compare/
+// makes the same ones.
+ghost use Rattle.std.specs.Prelude.{◌≡◌, ◌%◌, length};
+ghost use Rattle.replays.specs.Sounds.{times_from, value_at};
+
+// A value from 0 to 64, the same for the same two numbers: two steps of a generator by products.
+pub fn value_at(seed: u64, n: u64) -> f32
+    ensures { result ≡ value_at (seed % 131072) n }
+{
+    let first = (n % 1048576 + seed % 131072 * 7919) % 2147483648 * 1103515245 % 2147483648;
+    let second = (first / 256 + first * 13) % 2147483648 * 69069 % 2147483648;
+    let step = (second / 131072 % 4096) as f32;
+    step * step / 262144.0
+}
+
+// Times from `start` on, a hop apart.
+pub fn fill_times(times: &mut [f64], start: f64, hop: f64)
+    ensures { times.new ≡ times_from start hop (length times.old) }
+{
+    for i in 0..times.len() {
+        times[i] = start + numbers::float::real(i) * hop;
+    }
+}
