@@ -4,7 +4,7 @@ use mathlib.Core.Path.{◌≡◌, refl, ap, ap₂, ◌∙◌}
 use Rattle.engine_spec.specs.Lists.{Answered, answers_to}
 use Rattle.engine_spec.specs.Windows.{Submission}
 use Rattle.engine_spec.specs.declared.types.Engine.{Engine}
-use Rattle.engine_spec.specs.declared.types.SubmitResult.{SubmitResult}
+use Rattle.engine_spec.specs.Results.{SubmitResult}
 use Rattle.engine_sessions.specs.Session.{Reply, refusal, again, answered, outcome, Turn, after, AllWork, end, turn, submissions, replied, all_replied, AnswersRecorded}
 
 -- what is seen of a submission

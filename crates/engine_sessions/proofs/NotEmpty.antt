@@ -8,8 +8,9 @@ use lib.Dec.{T, lit<}
 use lib.ListN.{length}
 use lib.IntN.{negsuc}
 use lib.Ieee.{Float, fin, binary32, fits}
+use Rattle.std.specs.Prelude.{Some}
 use Rattle.numbers_spec.specs.Rows.{Every, F32, every}
-use Rattle.engine_spec.specs.Cases.{is_none, interrupting, is_computed}
+use Rattle.engine_spec.specs.Cases.{interrupting, is_computed}
 use Rattle.engine_spec.specs.Windows.{Window}
 use Rattle.engine_spec.specs.Opening.{opening, opened_settings, matcher_of_reference}
 use Rattle.engine_spec.specs.Lists.{Answered, remaining}
@@ -17,9 +18,8 @@ use Rattle.engine_spec.specs.Chain.{passes, best_offset, whole_at, Passes, Unbro
 use Rattle.engine_spec.specs.Leap.{Supported, Shifted, Gentle}
 use Rattle.engine_spec.specs.Guarantee.{AllHanded, nothing, next, Handed}
 use Rattle.engine_spec.specs.declared.types.ClockMs.{ClockMs}
-use Rattle.engine_spec.specs.declared.types.Maybe.TheVariants as maybe
 use Rattle.engine_spec.specs.declared.types.State.TheVariants as state
-use Rattle.engine_spec.specs.declared.types.Answer.TheVariants as answer
+use Rattle.engine_spec.specs.Results as answer
 use Rattle.engine_spec.proofs.Handed.{every_at}
 use Rattle.engine_spec.proofs.Openings.{opened_filled}
 use Rattle.engine_spec.proofs.Run.{guarantee, cannot_leap}
@@ -116,12 +116,12 @@ ends_recorded = record { first = 0; between = 2; after_first = lit< tt; before_l
 
 -- ---- the fifth coasts
 coasts_recorded : CoastsAt hop recorded_at 4
-unfolding remaining is_computed all_replied replied is_none
+unfolding remaining is_computed all_replied replied
 coasts_recorded = record { locked = refl; withheld = tt; coasting = record { before = 3; is = refl; locked = refl; place = refl } }
 
 -- ---- the sixth moves
 supported_recorded : Supported hop recorded_at 5
-unfolding remaining is_computed all_replied replied is_none
+unfolding remaining is_computed all_replied replied
 supported_recorded = record { locked = refl; reasonless = tt }
 
 local_recorded : T (not (whole_at hop recorded_at 5))
@@ -133,8 +133,8 @@ shifts_recorded : (c : Shifted hop recorded_at 5) → c.old ≡ c.new → ⊥
 unfolding remaining is_computed all_replied replied
 shifts_recorded c h =
     let before : c.before ≡ 4 = let i = c.is in omega arith in
-    let old : maybe.Is (fin true 3300933179821449 (negsuc 39)) ≡ maybe.Is c.old = subst (λ (k : ℕ). place_at hop recorded_at k ≡ maybe.Is c.old) before c.old_is in
-    let new : maybe.Is (fin true 6668336725062373 (negsuc 40)) ≡ maybe.Is c.new = c.new_is in
+    let old : Some (fin true 3300933179821449 (negsuc 39)) ≡ Some c.old = subst (λ (k : ℕ). place_at hop recorded_at k ≡ Some c.old) before c.old_is in
+    let new : Some (fin true 6668336725062373 (negsuc 40)) ≡ Some c.new = c.new_is in
     let clash : ◌≡◌ {A = ℕ} 3300933179821449 6668336725062373 = cc in
     omega arith
 

@@ -2,8 +2,8 @@
 use mathlib.Core.List.{List, [], ◌∷◌, ◌++◌}
 use mathlib.Core.Path.{◌≡◌, refl, sym, ap, ap₂, ◌∙◌, subst}
 use lib.Dec.{T}
+use Rattle.std.specs.Prelude.{None, is_some}
 use Rattle.matcher_spec.specs.Index.{Matcher}
-use Rattle.engine_spec.specs.Cases.{is_there}
 use Rattle.engine_spec.specs.Windows.{Submission}
 use Rattle.engine_spec.specs.Lists.{Answered, engine_after}
 use Rattle.engine_spec.specs.Guarantee.{AllHanded, nothing, next}
@@ -11,8 +11,7 @@ use Rattle.engine_spec.specs.Sessions.{Start, Past, settings_of, matcher_of, sta
 use Rattle.engine_spec.specs.Sessions.{Turn as SessionTurn}
 use Rattle.engine_spec.specs.declared.types.Settings.{Settings}
 use Rattle.engine_spec.specs.declared.types.Engine.{Engine}
-use Rattle.engine_spec.specs.declared.types.SubmitResult.{SubmitResult}
-use Rattle.engine_spec.specs.declared.types.Milestone.TheVariants as milestone
+use Rattle.engine_spec.specs.Results.{SubmitResult}
 use Rattle.engine_spec.specs.declared.types.State.TheVariants as state
 use Rattle.engine_spec.proofs.Sessions.{guarantee_of_sessions}
 use Rattle.engine_sessions.specs.Session.{Turn, Session, engine_of, after, AllWork, end, turn, submissions, all_replied}
@@ -136,10 +135,10 @@ locks_again = record {
   proper = rerun_proper;
   promised = guarantee_of_sessions (past_of session []) (rerun session before_mark after_mark) fresh_proper rerun_proper;
   answers = answers_are;
-  unlocked = shown (λ (l : List Answered). (answer_at l 1).snapshot.final_lock_elapsed_ms ≡ milestone.Absent) refl;
+  unlocked = shown (λ (l : List Answered). (answer_at l 1).snapshot.final_lock_elapsed_ms ≡ None) refl;
   locked = shown (λ (l : List Answered). (answer_at l 4).snapshot.state ≡ state.Locked) refl;
-  stamped = shown (λ (l : List Answered). T (is_there (answer_at l 4).snapshot.final_lock_elapsed_ms)) tt;
-  back = shown (λ (l : List Answered). (answer_at l 6).snapshot.final_lock_elapsed_ms ≡ milestone.Absent) refl;
+  stamped = shown (λ (l : List Answered). T (is_some (answer_at l 4).snapshot.final_lock_elapsed_ms)) tt;
+  back = shown (λ (l : List Answered). (answer_at l 6).snapshot.final_lock_elapsed_ms ≡ None) refl;
   locked_again = shown (λ (l : List Answered). (answer_at l 8).snapshot.state ≡ state.Locked) refl;
-  stamped_again = shown (λ (l : List Answered). T (is_there (answer_at l 8).snapshot.final_lock_elapsed_ms)) tt;
+  stamped_again = shown (λ (l : List Answered). T (is_some (answer_at l 8).snapshot.final_lock_elapsed_ms)) tt;
 }

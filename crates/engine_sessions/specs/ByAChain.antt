@@ -1,21 +1,18 @@
 -- A session of the Rust, recorded by `compare/run --sessions`, which writes this file: not to be edited by hand. Definitions only.
 -- `fin s m (pos k)` is m × 2^k and `fin s m (negsuc k)` is m × 2^-(k + 1), below zero where s is true.
-use Rattle.std.specs.Prelude.{true, false, [], ◌∷◌, pos, negsuc, Float}
+use Rattle.std.specs.Prelude.{true, false, None, Some, [], ◌∷◌, pos, negsuc, Float}
 use Rattle.std.specs.Float.{fin, inf}
 use Rattle.matcher_spec.specs.Index.{Index}
 use Rattle.engine_spec.specs.Windows.{Window}
 use Rattle.matcher_spec.specs.Features.{Features}
 use Rattle.engine_spec.specs.Opening.{opened_index}
+use Rattle.engine_spec.specs.Tracking.{hypothesis}
 use Rattle.engine_spec.specs.declared.types.Configuration.{Configuration}
 use Rattle.engine_spec.specs.declared.types.Snapshot.{Snapshot}
 use Rattle.engine_spec.specs.declared.types.State.TheVariants as state
 use Rattle.engine_spec.specs.declared.types.LockPhase.TheVariants as phase
 use Rattle.engine_spec.specs.declared.types.Stage.TheVariants as stage
 use Rattle.engine_spec.specs.declared.types.WithholdReason.TheVariants as reason
-use Rattle.engine_spec.specs.declared.types.Estimate.TheVariants as estimate
-use Rattle.engine_spec.specs.declared.types.Maybe.TheVariants as maybe
-use Rattle.engine_spec.specs.declared.types.Milestone.TheVariants as milestone
-use Rattle.engine_spec.specs.declared.types.Hypothesis.TheVariants as hypothesis
 use Rattle.engine_spec.specs.declared.types.Refusal.TheVariants as refusal
 use Rattle.engine_sessions.specs.Session.{Session, Turn, room_for, heard, heard_without_work, eight, refusal, answered}
 
@@ -40,16 +37,16 @@ snapshot1 = record {
   state = state.Locking;
   phase = phase.Provisional;
   stage = stage.RobustVerify;
-  estimate = estimate.At (record { 0 = fin false 1375 (pos 2) }) (record { 0 = fin false 2741476523582129 (negsuc 39) }) (fin true 3305837429185871 (negsuc 39));
-  withhold_reason = reason.WeakAlignmentPeak;
+  estimate = Some (record { query_endpoint_recorded_time_ms = record { 0 = fin false 1375 (pos 2) }; reference_time_ms = record { 0 = fin false 2741476523582129 (negsuc 39) }; offset_ms = fin true 3305837429185871 (negsuc 39) });
+  withhold_reason = Some (reason.WeakAlignmentPeak);
   confidence = fin false 8473028871922935 (negsuc 52);
   diagnostics = record {
     query_duration_ms = fin false 1125 (pos 2);
     active_frame_fraction = fin false 2844378712023471 (negsuc 53);
     coarse_ambiguous = false;
     dense_margin = fin false 8473028871922935 (negsuc 52);
-    offset_stability_ms = maybe.Absent;
-    track_innovation_ms = maybe.Absent;
+    offset_stability_ms = None;
+    track_innovation_ms = None;
     track_count = 0;
     offset_tracker_confirmed = false;
     offset_tracker_stable = false;
@@ -58,7 +55,7 @@ snapshot1 = record {
     spectral = record {
       global_search = true;
       correlation = fin false 8473028871922935 (negsuc 52);
-      competing_peak_margin = maybe.Is (fin false 8473028871922935 (negsuc 52));
+      competing_peak_margin = Some (fin false 8473028871922935 (negsuc 52));
       first_half_correlation = fin false 528493750860823 (negsuc 48);
       second_half_correlation = fin false 4248378376982169 (negsuc 51);
       recent_correlation = fin false 4314202271362237 (negsuc 51);
@@ -66,13 +63,13 @@ snapshot1 = record {
       coast_ms = fin false 0 (pos 0);
     };
   };
-  first_provisional_lock_elapsed_ms = milestone.At (record { 0 = fin false 1 (pos 0) });
-  confirmed_lock_elapsed_ms = milestone.Absent;
-  final_lock_elapsed_ms = milestone.Absent;
+  first_provisional_lock_elapsed_ms = Some (record { 0 = fin false 1 (pos 0) });
+  confirmed_lock_elapsed_ms = None;
+  final_lock_elapsed_ms = None;
 }
 
 abbrev pub turn1 : Turn
-turn1 = record { submission = heard 23 index window1 (fin false 1 (pos 0)); reply = answered snapshot1 (record { pending = hypothesis.Held (fin true 3305837429185871 (negsuc 39)) (record { 0 = fin false 2625 (pos 1) }) (record { 0 = fin false 2625 (pos 1) }) (fin false 8473028871922935 (negsuc 52)); accepted = hypothesis.Absent; last_global_search_ms = record { 0 = fin false 1375 (pos 2) } }) }
+turn1 = record { submission = heard 23 index window1 (fin false 1 (pos 0)); reply = answered snapshot1 (record { pending = Some (hypothesis (fin true 3305837429185871 (negsuc 39)) (record { 0 = fin false 2625 (pos 1) }) (record { 0 = fin false 2625 (pos 1) }) (fin false 8473028871922935 (negsuc 52))); accepted = None; last_global_search_ms = record { 0 = fin false 1375 (pos 2) } }) }
 
 -- ---- 2, too early for a whole search
 abbrev pub window2 : Window
@@ -83,16 +80,16 @@ snapshot2 = record {
   state = state.Locking;
   phase = phase.Provisional;
   stage = stage.Readiness;
-  estimate = estimate.At (record { 0 = fin false 2875 (pos 1) }) (record { 0 = fin false 3016354430526129 (negsuc 39) }) (fin true 3305837429185871 (negsuc 39));
-  withhold_reason = reason.WeakAlignmentPeak;
+  estimate = Some (record { query_endpoint_recorded_time_ms = record { 0 = fin false 2875 (pos 1) }; reference_time_ms = record { 0 = fin false 3016354430526129 (negsuc 39) }; offset_ms = fin true 3305837429185871 (negsuc 39) });
+  withhold_reason = Some (reason.WeakAlignmentPeak);
   confidence = fin false 0 (pos 0);
   diagnostics = record {
     query_duration_ms = fin false 1125 (pos 2);
     active_frame_fraction = fin false 2844378712023471 (negsuc 53);
     coarse_ambiguous = false;
     dense_margin = fin false 0 (pos 0);
-    offset_stability_ms = maybe.Absent;
-    track_innovation_ms = maybe.Absent;
+    offset_stability_ms = None;
+    track_innovation_ms = None;
     track_count = 0;
     offset_tracker_confirmed = false;
     offset_tracker_stable = false;
@@ -101,7 +98,7 @@ snapshot2 = record {
     spectral = record {
       global_search = false;
       correlation = fin false 0 (pos 0);
-      competing_peak_margin = maybe.Absent;
+      competing_peak_margin = None;
       first_half_correlation = fin false 0 (pos 0);
       second_half_correlation = fin false 0 (pos 0);
       recent_correlation = fin false 0 (pos 0);
@@ -109,13 +106,13 @@ snapshot2 = record {
       coast_ms = fin false 0 (pos 0);
     };
   };
-  first_provisional_lock_elapsed_ms = milestone.At (record { 0 = fin false 1 (pos 0) });
-  confirmed_lock_elapsed_ms = milestone.Absent;
-  final_lock_elapsed_ms = milestone.Absent;
+  first_provisional_lock_elapsed_ms = Some (record { 0 = fin false 1 (pos 0) });
+  confirmed_lock_elapsed_ms = None;
+  final_lock_elapsed_ms = None;
 }
 
 abbrev pub turn2 : Turn
-turn2 = record { submission = heard 23 index window2 (fin false 1 (pos 1)); reply = answered snapshot2 (record { pending = hypothesis.Held (fin true 3305837429185871 (negsuc 39)) (record { 0 = fin false 2625 (pos 1) }) (record { 0 = fin false 2625 (pos 1) }) (fin false 8473028871922935 (negsuc 52)); accepted = hypothesis.Absent; last_global_search_ms = record { 0 = fin false 1375 (pos 2) } }) }
+turn2 = record { submission = heard 23 index window2 (fin false 1 (pos 1)); reply = answered snapshot2 (record { pending = Some (hypothesis (fin true 3305837429185871 (negsuc 39)) (record { 0 = fin false 2625 (pos 1) }) (record { 0 = fin false 2625 (pos 1) }) (fin false 8473028871922935 (negsuc 52))); accepted = None; last_global_search_ms = record { 0 = fin false 1375 (pos 2) } }) }
 
 -- ---- 3, a search that fails by a half, at the same place
 abbrev pub window3 : Window
@@ -126,16 +123,16 @@ snapshot3 = record {
   state = state.Locking;
   phase = phase.Provisional;
   stage = stage.RobustVerify;
-  estimate = estimate.At (record { 0 = fin false 375 (pos 4) }) (record { 0 = fin false 3291232337470129 (negsuc 39) }) (fin true 3305837429185871 (negsuc 39));
-  withhold_reason = reason.WeakAlignmentPeak;
+  estimate = Some (record { query_endpoint_recorded_time_ms = record { 0 = fin false 375 (pos 4) }; reference_time_ms = record { 0 = fin false 3291232337470129 (negsuc 39) }; offset_ms = fin true 3305837429185871 (negsuc 39) });
+  withhold_reason = Some (reason.WeakAlignmentPeak);
   confidence = fin false 6134321673541875 (negsuc 52);
   diagnostics = record {
     query_duration_ms = fin false 1125 (pos 2);
     active_frame_fraction = fin false 2844378712023471 (negsuc 53);
     coarse_ambiguous = false;
     dense_margin = fin false 6134321673541875 (negsuc 52);
-    offset_stability_ms = maybe.Absent;
-    track_innovation_ms = maybe.Absent;
+    offset_stability_ms = None;
+    track_innovation_ms = None;
     track_count = 0;
     offset_tracker_confirmed = false;
     offset_tracker_stable = false;
@@ -144,7 +141,7 @@ snapshot3 = record {
     spectral = record {
       global_search = true;
       correlation = fin false 6134321673541875 (negsuc 52);
-      competing_peak_margin = maybe.Is (fin false 6134321673541875 (negsuc 52));
+      competing_peak_margin = Some (fin false 6134321673541875 (negsuc 52));
       first_half_correlation = fin false 9007198972770033 (negsuc 52);
       second_half_correlation = fin false 3768751556591265 (negsuc 56);
       recent_correlation = fin true 4579625951324529 (negsuc 52);
@@ -152,13 +149,13 @@ snapshot3 = record {
       coast_ms = fin false 0 (pos 0);
     };
   };
-  first_provisional_lock_elapsed_ms = milestone.At (record { 0 = fin false 1 (pos 0) });
-  confirmed_lock_elapsed_ms = milestone.Absent;
-  final_lock_elapsed_ms = milestone.Absent;
+  first_provisional_lock_elapsed_ms = Some (record { 0 = fin false 1 (pos 0) });
+  confirmed_lock_elapsed_ms = None;
+  final_lock_elapsed_ms = None;
 }
 
 abbrev pub turn3 : Turn
-turn3 = record { submission = heard 23 index window3 (fin false 3 (pos 0)); reply = answered snapshot3 (record { pending = hypothesis.Held (fin true 3305837429185871 (negsuc 39)) (record { 0 = fin false 2625 (pos 1) }) (record { 0 = fin false 2625 (pos 1) }) (fin false 8473028871922935 (negsuc 52)); accepted = hypothesis.Absent; last_global_search_ms = record { 0 = fin false 375 (pos 4) } }) }
+turn3 = record { submission = heard 23 index window3 (fin false 3 (pos 0)); reply = answered snapshot3 (record { pending = Some (hypothesis (fin true 3305837429185871 (negsuc 39)) (record { 0 = fin false 2625 (pos 1) }) (record { 0 = fin false 2625 (pos 1) }) (fin false 8473028871922935 (negsuc 52))); accepted = None; last_global_search_ms = record { 0 = fin false 375 (pos 4) } }) }
 
 -- ---- 4, refused: no working buffers
 abbrev pub window4 : Window
@@ -176,16 +173,16 @@ snapshot5 = record {
   state = state.Locked;
   phase = phase.Final;
   stage = stage.Tracking;
-  estimate = estimate.At (record { 0 = fin false 1625 (pos 2) }) (record { 0 = fin false 3845892400722551 (negsuc 39) }) (fin true 3300933179821449 (negsuc 39));
-  withhold_reason = reason.None;
+  estimate = Some (record { query_endpoint_recorded_time_ms = record { 0 = fin false 1625 (pos 2) }; reference_time_ms = record { 0 = fin false 3845892400722551 (negsuc 39) }; offset_ms = fin true 3300933179821449 (negsuc 39) });
+  withhold_reason = None;
   confidence = fin false 4093060045203427 (negsuc 51);
   diagnostics = record {
     query_duration_ms = fin false 1125 (pos 2);
     active_frame_fraction = fin false 2844378712023471 (negsuc 53);
     coarse_ambiguous = false;
     dense_margin = fin false 2736382732469727 (negsuc 52);
-    offset_stability_ms = maybe.Absent;
-    track_innovation_ms = maybe.Absent;
+    offset_stability_ms = None;
+    track_innovation_ms = None;
     track_count = 1;
     offset_tracker_confirmed = true;
     offset_tracker_stable = true;
@@ -194,7 +191,7 @@ snapshot5 = record {
     spectral = record {
       global_search = true;
       correlation = fin false 4093060045203427 (negsuc 51);
-      competing_peak_margin = maybe.Is (fin false 2736382732469727 (negsuc 52));
+      competing_peak_margin = Some (fin false 2736382732469727 (negsuc 52));
       first_half_correlation = fin false 4124283676615371 (negsuc 51);
       second_half_correlation = fin false 8119905038513937 (negsuc 52);
       recent_correlation = fin false 8397116124320411 (negsuc 52);
@@ -202,13 +199,13 @@ snapshot5 = record {
       coast_ms = fin false 0 (pos 0);
     };
   };
-  first_provisional_lock_elapsed_ms = milestone.At (record { 0 = fin false 1 (pos 0) });
-  confirmed_lock_elapsed_ms = milestone.At (record { 0 = fin false 5 (pos 0) });
-  final_lock_elapsed_ms = milestone.At (record { 0 = fin false 5 (pos 0) });
+  first_provisional_lock_elapsed_ms = Some (record { 0 = fin false 1 (pos 0) });
+  confirmed_lock_elapsed_ms = Some (record { 0 = fin false 5 (pos 0) });
+  final_lock_elapsed_ms = Some (record { 0 = fin false 5 (pos 0) });
 }
 
 abbrev pub turn5 : Turn
-turn5 = record { submission = heard 23 index window5 (fin false 5 (pos 0)); reply = answered snapshot5 (record { pending = hypothesis.Held (fin true 3300933179821449 (negsuc 39)) (record { 0 = fin false 2625 (pos 1) }) (record { 0 = fin false 3125 (pos 1) }) (fin false 4093060045203427 (negsuc 51)); accepted = hypothesis.Held (fin true 3300933179821449 (negsuc 39)) (record { 0 = fin false 3125 (pos 1) }) (record { 0 = fin false 3125 (pos 1) }) (fin false 4093060045203427 (negsuc 51)); last_global_search_ms = record { 0 = fin false 1625 (pos 2) } }) }
+turn5 = record { submission = heard 23 index window5 (fin false 5 (pos 0)); reply = answered snapshot5 (record { pending = Some (hypothesis (fin true 3300933179821449 (negsuc 39)) (record { 0 = fin false 2625 (pos 1) }) (record { 0 = fin false 3125 (pos 1) }) (fin false 4093060045203427 (negsuc 51))); accepted = Some (hypothesis (fin true 3300933179821449 (negsuc 39)) (record { 0 = fin false 3125 (pos 1) }) (record { 0 = fin false 3125 (pos 1) }) (fin false 4093060045203427 (negsuc 51))); last_global_search_ms = record { 0 = fin false 1625 (pos 2) } }) }
 
 -- ---- 6, a coast: no recent support
 abbrev pub window6 : Window
@@ -219,16 +216,16 @@ snapshot6 = record {
   state = state.Locked;
   phase = phase.Final;
   stage = stage.Tracking;
-  estimate = estimate.At (record { 0 = fin false 3345 (pos 1) }) (record { 0 = fin false 4054799609999991 (negsuc 39) }) (fin true 3300933179821449 (negsuc 39));
-  withhold_reason = reason.WeakAlignmentPeak;
+  estimate = Some (record { query_endpoint_recorded_time_ms = record { 0 = fin false 3345 (pos 1) }; reference_time_ms = record { 0 = fin false 4054799609999991 (negsuc 39) }; offset_ms = fin true 3300933179821449 (negsuc 39) });
+  withhold_reason = Some (reason.WeakAlignmentPeak);
   confidence = fin false 3574605772810993 (negsuc 51);
   diagnostics = record {
     query_duration_ms = fin false 1125 (pos 2);
     active_frame_fraction = fin false 2844378712023471 (negsuc 53);
     coarse_ambiguous = false;
     dense_margin = fin false 0 (pos 0);
-    offset_stability_ms = maybe.Absent;
-    track_innovation_ms = maybe.Absent;
+    offset_stability_ms = None;
+    track_innovation_ms = None;
     track_count = 1;
     offset_tracker_confirmed = true;
     offset_tracker_stable = false;
@@ -237,7 +234,7 @@ snapshot6 = record {
     spectral = record {
       global_search = false;
       correlation = fin false 7016606790595545 (negsuc 52);
-      competing_peak_margin = maybe.Absent;
+      competing_peak_margin = None;
       first_half_correlation = fin false 8595920232198471 (negsuc 52);
       second_half_correlation = fin false 163680682907861 (negsuc 47);
       recent_correlation = fin true 8251528438417527 (negsuc 53);
@@ -245,13 +242,13 @@ snapshot6 = record {
       coast_ms = fin false 95 (pos 1);
     };
   };
-  first_provisional_lock_elapsed_ms = milestone.At (record { 0 = fin false 1 (pos 0) });
-  confirmed_lock_elapsed_ms = milestone.At (record { 0 = fin false 5 (pos 0) });
-  final_lock_elapsed_ms = milestone.At (record { 0 = fin false 5 (pos 0) });
+  first_provisional_lock_elapsed_ms = Some (record { 0 = fin false 1 (pos 0) });
+  confirmed_lock_elapsed_ms = Some (record { 0 = fin false 5 (pos 0) });
+  final_lock_elapsed_ms = Some (record { 0 = fin false 5 (pos 0) });
 }
 
 abbrev pub turn6 : Turn
-turn6 = record { submission = heard 23 index window6 (fin false 3 (pos 1)); reply = answered snapshot6 (record { pending = hypothesis.Held (fin true 3300933179821449 (negsuc 39)) (record { 0 = fin false 2625 (pos 1) }) (record { 0 = fin false 3125 (pos 1) }) (fin false 4093060045203427 (negsuc 51)); accepted = hypothesis.Held (fin true 3300933179821449 (negsuc 39)) (record { 0 = fin false 3125 (pos 1) }) (record { 0 = fin false 3125 (pos 1) }) (fin false 4093060045203427 (negsuc 51)); last_global_search_ms = record { 0 = fin false 1625 (pos 2) } }) }
+turn6 = record { submission = heard 23 index window6 (fin false 3 (pos 1)); reply = answered snapshot6 (record { pending = Some (hypothesis (fin true 3300933179821449 (negsuc 39)) (record { 0 = fin false 2625 (pos 1) }) (record { 0 = fin false 3125 (pos 1) }) (fin false 4093060045203427 (negsuc 51))); accepted = Some (hypothesis (fin true 3300933179821449 (negsuc 39)) (record { 0 = fin false 3125 (pos 1) }) (record { 0 = fin false 3125 (pos 1) }) (fin false 4093060045203427 (negsuc 51))); last_global_search_ms = record { 0 = fin false 1625 (pos 2) } }) }
 
 -- ---- 7, local support, which moves the track
 abbrev pub window7 : Window
@@ -262,16 +259,16 @@ snapshot7 = record {
   state = state.Locked;
   phase = phase.Final;
   stage = stage.Tracking;
-  estimate = estimate.At (record { 0 = fin false 425 (pos 4) }) (record { 0 = fin false 8285021412691227 (negsuc 40) }) (fin true 6668336725062373 (negsuc 40));
-  withhold_reason = reason.None;
+  estimate = Some (record { query_endpoint_recorded_time_ms = record { 0 = fin false 425 (pos 4) }; reference_time_ms = record { 0 = fin false 8285021412691227 (negsuc 40) }; offset_ms = fin true 6668336725062373 (negsuc 40) });
+  withhold_reason = None;
   confidence = fin false 8396204204430489 (negsuc 52);
   diagnostics = record {
     query_duration_ms = fin false 1125 (pos 2);
     active_frame_fraction = fin false 2844378712023471 (negsuc 53);
     coarse_ambiguous = false;
     dense_margin = fin false 0 (pos 0);
-    offset_stability_ms = maybe.Is (fin false 52577284895351 (negsuc 39));
-    track_innovation_ms = maybe.Is (fin true 52577284895351 (negsuc 39));
+    offset_stability_ms = Some (fin false 52577284895351 (negsuc 39));
+    track_innovation_ms = Some (fin true 52577284895351 (negsuc 39));
     track_count = 1;
     offset_tracker_confirmed = true;
     offset_tracker_stable = true;
@@ -280,7 +277,7 @@ snapshot7 = record {
     spectral = record {
       global_search = false;
       correlation = fin false 8396204204430489 (negsuc 52);
-      competing_peak_margin = maybe.Absent;
+      competing_peak_margin = None;
       first_half_correlation = fin false 8595920232198471 (negsuc 52);
       second_half_correlation = fin false 8149613027462139 (negsuc 52);
       recent_correlation = fin false 500303185900201 (negsuc 48);
@@ -288,13 +285,13 @@ snapshot7 = record {
       coast_ms = fin false 0 (pos 0);
     };
   };
-  first_provisional_lock_elapsed_ms = milestone.At (record { 0 = fin false 1 (pos 0) });
-  confirmed_lock_elapsed_ms = milestone.At (record { 0 = fin false 5 (pos 0) });
-  final_lock_elapsed_ms = milestone.At (record { 0 = fin false 5 (pos 0) });
+  first_provisional_lock_elapsed_ms = Some (record { 0 = fin false 1 (pos 0) });
+  confirmed_lock_elapsed_ms = Some (record { 0 = fin false 5 (pos 0) });
+  final_lock_elapsed_ms = Some (record { 0 = fin false 5 (pos 0) });
 }
 
 abbrev pub turn7 : Turn
-turn7 = record { submission = heard 23 index window7 (fin false 7 (pos 0)); reply = answered snapshot7 (record { pending = hypothesis.Held (fin true 3300933179821449 (negsuc 39)) (record { 0 = fin false 2625 (pos 1) }) (record { 0 = fin false 3125 (pos 1) }) (fin false 4093060045203427 (negsuc 51)); accepted = hypothesis.Held (fin true 6668336725062373 (negsuc 40)) (record { 0 = fin false 3125 (pos 1) }) (record { 0 = fin false 3275 (pos 1) }) (fin false 8396204204430489 (negsuc 52)); last_global_search_ms = record { 0 = fin false 1625 (pos 2) } }) }
+turn7 = record { submission = heard 23 index window7 (fin false 7 (pos 0)); reply = answered snapshot7 (record { pending = Some (hypothesis (fin true 3300933179821449 (negsuc 39)) (record { 0 = fin false 2625 (pos 1) }) (record { 0 = fin false 3125 (pos 1) }) (fin false 4093060045203427 (negsuc 51))); accepted = Some (hypothesis (fin true 6668336725062373 (negsuc 40)) (record { 0 = fin false 3125 (pos 1) }) (record { 0 = fin false 3275 (pos 1) }) (fin false 8396204204430489 (negsuc 52))); last_global_search_ms = record { 0 = fin false 1625 (pos 2) } }) }
 
 -- ---- 8, a coast: two hops after the last, no jump
 abbrev pub window8 : Window
@@ -305,16 +302,16 @@ snapshot8 = record {
   state = state.Locked;
   phase = phase.Final;
   stage = stage.Tracking;
-  estimate = estimate.At (record { 0 = fin false 4025 (pos 1) }) (record { 0 = fin false 2758450120532807 (negsuc 38) }) (fin true 6668336725062373 (negsuc 40));
-  withhold_reason = reason.WeakAlignmentPeak;
+  estimate = Some (record { query_endpoint_recorded_time_ms = record { 0 = fin false 4025 (pos 1) }; reference_time_ms = record { 0 = fin false 2758450120532807 (negsuc 38) }; offset_ms = fin true 6668336725062373 (negsuc 40) });
+  withhold_reason = Some (reason.WeakAlignmentPeak);
   confidence = fin false 5597469469620325 (negsuc 54);
   diagnostics = record {
     query_duration_ms = fin false 375 (pos 1);
     active_frame_fraction = fin false 1 (negsuc 1);
     coarse_ambiguous = false;
     dense_margin = fin false 0 (pos 0);
-    offset_stability_ms = maybe.Absent;
-    track_innovation_ms = maybe.Absent;
+    offset_stability_ms = None;
+    track_innovation_ms = None;
     track_count = 1;
     offset_tracker_confirmed = true;
     offset_tracker_stable = false;
@@ -323,7 +320,7 @@ snapshot8 = record {
     spectral = record {
       global_search = true;
       correlation = fin false 0 (pos 0);
-      competing_peak_margin = maybe.Is (fin false 0 (pos 0));
+      competing_peak_margin = Some (fin false 0 (pos 0));
       first_half_correlation = fin false 0 (pos 0);
       second_half_correlation = fin false 0 (pos 0);
       recent_correlation = fin false 0 (pos 0);
@@ -331,13 +328,13 @@ snapshot8 = record {
       coast_ms = fin false 625 (pos 1);
     };
   };
-  first_provisional_lock_elapsed_ms = milestone.At (record { 0 = fin false 1 (pos 0) });
-  confirmed_lock_elapsed_ms = milestone.At (record { 0 = fin false 5 (pos 0) });
-  final_lock_elapsed_ms = milestone.At (record { 0 = fin false 5 (pos 0) });
+  first_provisional_lock_elapsed_ms = Some (record { 0 = fin false 1 (pos 0) });
+  confirmed_lock_elapsed_ms = Some (record { 0 = fin false 5 (pos 0) });
+  final_lock_elapsed_ms = Some (record { 0 = fin false 5 (pos 0) });
 }
 
 abbrev pub turn8 : Turn
-turn8 = record { submission = heard 23 index window8 (fin false 1 (pos 3)); reply = answered snapshot8 (record { pending = hypothesis.Absent; accepted = hypothesis.Held (fin true 6668336725062373 (negsuc 40)) (record { 0 = fin false 3125 (pos 1) }) (record { 0 = fin false 3275 (pos 1) }) (fin false 8396204204430489 (negsuc 52)); last_global_search_ms = record { 0 = fin false 4025 (pos 1) } }) }
+turn8 = record { submission = heard 23 index window8 (fin false 1 (pos 3)); reply = answered snapshot8 (record { pending = None; accepted = Some (hypothesis (fin true 6668336725062373 (negsuc 40)) (record { 0 = fin false 3125 (pos 1) }) (record { 0 = fin false 3275 (pos 1) }) (fin false 8396204204430489 (negsuc 52))); last_global_search_ms = record { 0 = fin false 4025 (pos 1) } }) }
 
 abbrev pub session : Session
 session = record { configuration = configuration; hop = hop; reference = reference; turns = turn1 ∷ turn2 ∷ turn3 ∷ turn4 ∷ turn5 ∷ turn6 ∷ turn7 ∷ turn8 ∷ [] }

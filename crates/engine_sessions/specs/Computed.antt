@@ -23,11 +23,11 @@ use Rattle.engine_spec.specs.Tracking.{supports, gain, moved_offset, followed, t
 use Rattle.engine_spec.specs.Locking.{passing, first_evidence, holds, held_or_dropped, confirms, kept_or_replaced, passed, whole_searched, searched}
 use Rattle.engine_spec.specs.Publishing.{verdict_of, decide, fresh_evidence, candidates_shown, magnitude_of, publish}
 use Rattle.engine_spec.specs.Submitting.{shown_again, reread, decision_on, computed_from, answered_from, submit}
-use Rattle.engine_spec.specs.Cases.{is_none, is_publishing}
+use Rattle.engine_spec.specs.Cases.{is_publishing}
 use Rattle.engine_spec.specs.Milestones.{stamp}
 use Rattle.engine_spec.specs.declared.types.Engine.{Engine}
-use Rattle.engine_spec.specs.declared.types.SubmitResult.{SubmitResult}
+use Rattle.engine_spec.specs.Results.{SubmitResult}
 
 unfoldable pub submit_now : Engine → Submission → SubmitResult
-unfolding submit answered_from stamp shown_again reread decision_on computed_from verdict_of decide fresh_evidence candidates_shown is_publishing magnitude_of publish least passing first_evidence holds held_or_dropped confirms kept_or_replaced passed whole_searched searched supports gain moved_offset followed tracked tally active_fraction mean_power average_energy readiness is_none blank_snapshot fresh_engine no_engine opening fills opened_index number_of every valid_configuration index_fits opening_refusal valid_settings valid_hypothesis valid_lock valid_milestone valid_milestones valid_endpoint valid_estimate valid_snapshot valid_last valid_engine valid_window window_refusal work_fits handed_refusal submission_refusal evidence_at jumps_from rereads_from searchable query_of vertex fraction candidate_of candidate_in candidates_at local_found coarse_scores separation whole_found whole_search local_search accepts_reference matcher_of insert sort_into crowded independent_from margin_of maximum_to near_to free_to peaks_from lane lanes onward dot variance_floor band_term term_at correlation_at correlations part_term part_at score_part whole_energies average context_frames radius logs_of mean_around centred_at centred on_time regular accepts valid_values tabulate rows all_to sum_to magnitude log_series log_of log1p_of log10_of exp_series two_to exp_of ten_to root_of nearest_f32 whole_nearest whole_below whole_above neg add sub mul div lt le eq is_nan of_int to_unsigned of_bits to_bits
+unfolding submit answered_from stamp shown_again reread decision_on computed_from verdict_of decide fresh_evidence candidates_shown is_publishing magnitude_of publish least passing first_evidence holds held_or_dropped confirms kept_or_replaced passed whole_searched searched supports gain moved_offset followed tracked tally active_fraction mean_power average_energy readiness blank_snapshot fresh_engine no_engine opening fills opened_index number_of every valid_configuration index_fits opening_refusal valid_settings valid_hypothesis valid_lock valid_milestone valid_milestones valid_endpoint valid_estimate valid_snapshot valid_last valid_engine valid_window window_refusal work_fits handed_refusal submission_refusal evidence_at jumps_from rereads_from searchable query_of vertex fraction candidate_of candidate_in candidates_at local_found coarse_scores separation whole_found whole_search local_search accepts_reference matcher_of insert sort_into crowded independent_from margin_of maximum_to near_to free_to peaks_from lane lanes onward dot variance_floor band_term term_at correlation_at correlations part_term part_at score_part whole_energies average context_frames radius logs_of mean_around centred_at centred on_time regular accepts valid_values tabulate rows all_to sum_to magnitude log_series log_of log1p_of log10_of exp_series two_to exp_of ten_to root_of nearest_f32 whole_nearest whole_below whole_above neg add sub mul div lt le eq is_nan of_int to_unsigned of_bits to_bits
 submit_now e i = submit e i

@@ -1,16 +1,14 @@
 -- What no session reaches, but a state made by a caller brings: Confirmed. Definitions only.
-use Rattle.std.specs.Prelude.{true, false, ◌≡◌, pos}
+use Rattle.std.specs.Prelude.{true, false, ◌≡◌, pos, None, Some}
 use Rattle.std.specs.Float.{fin}
 use Rattle.engine_spec.specs.Windows.{Submission}
 use Rattle.engine_spec.specs.Refusals.{valid_engine}
 use Rattle.engine_spec.specs.Opening.{blank_snapshot, with_index}
+use Rattle.engine_spec.specs.Tracking.{hypothesis}
 use Rattle.engine_spec.specs.Submitting.{submit}
 use Rattle.engine_spec.specs.declared.types.Engine.{Engine}
-use Rattle.engine_spec.specs.declared.types.Milestone.TheVariants as milestone
-use Rattle.engine_spec.specs.declared.types.Hypothesis.TheVariants as hypothesis
-use Rattle.engine_spec.specs.declared.types.Endpoint.TheVariants as endpoint
 use Rattle.engine_spec.specs.declared.types.State.TheVariants as state
-use Rattle.engine_spec.specs.declared.types.Answer.TheVariants as answer
+use Rattle.engine_spec.specs.Results as answer
 use Rattle.engine_sessions.specs.ByAChain.{configuration, hop, reference, turn7}
 
 -- Of the recorded session's reference: a track at -3,000, and confirmed there without final.
@@ -19,12 +17,12 @@ made_engine = record {
   configuration = configuration;
   settings = with_index hop reference;
   lock = record {
-    pending = hypothesis.Absent;
-    accepted = hypothesis.Held (fin true 375 (pos 3)) (record { 0 = fin false 3125 (pos 1) }) (record { 0 = fin false 3125 (pos 1) }) (fin false 1 (pos 0));
+    pending = None;
+    accepted = Some (hypothesis (fin true 375 (pos 3)) (record { 0 = fin false 3125 (pos 1) }) (record { 0 = fin false 3125 (pos 1) }) (fin false 1 (pos 0)));
     last_global_search_ms = record { 0 = fin false 1625 (pos 2) };
   };
-  milestones = record { first_provisional_ms = milestone.At (record { 0 = fin false 1 (pos 0) }); confirmed_ms = milestone.At (record { 0 = fin false 5 (pos 0) }); final_ms = milestone.Absent };
-  last = record { endpoint_ms = endpoint.Absent; has_snapshot = false; snapshot = blank_snapshot };
+  milestones = record { first_provisional_ms = Some (record { 0 = fin false 1 (pos 0) }); confirmed_ms = Some (record { 0 = fin false 5 (pos 0) }); final_ms = None };
+  last = record { endpoint_ms = None; has_snapshot = false; snapshot = blank_snapshot };
 }
 
 -- The submission is answered, not refused with 7, and shows Confirmed.

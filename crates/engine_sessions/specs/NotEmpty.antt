@@ -1,14 +1,13 @@
 -- The guarantee is not empty, nor is what is said of a place that moves: a recorded session is a list such as they speak of, locks by a chain of several answers, coasts, and moves its track. Definitions only.
-use Rattle.std.specs.Prelude.{ℕ, ◌<◌, not, List, ◌≡◌, T, length, get_or, Float}
+use Rattle.std.specs.Prelude.{ℕ, ◌<◌, not, List, ◌≡◌, T, length, get_or, Float, is_none}
 use Rattle.numbers_spec.specs.Rows.{Every, F32}
-use Rattle.engine_spec.specs.Cases.{is_none}
 use Rattle.engine_spec.specs.Opening.{opening, opened_settings, matcher_of_reference}
 use Rattle.engine_spec.specs.Lists.{Answered, answers_to, remaining, unanswered}
 use Rattle.engine_spec.specs.Chain.{shown_at, whole_at, Passes, Chain, OnChain, Coasting}
 use Rattle.engine_spec.specs.Leap.{Supported, Carried}
 use Rattle.engine_spec.specs.Guarantee.{AllHanded, Promised}
 use Rattle.engine_spec.specs.declared.types.State.TheVariants as state
-use Rattle.engine_spec.specs.declared.types.Answer.TheVariants as answer
+use Rattle.engine_spec.specs.Results as answer
 use Rattle.engine_sessions.specs.Session.{Session, room_for, engine_of, submissions}
 
 -- The remaining answers of a session.

@@ -1,10 +1,8 @@
 -- A mark and a rerun (engine_spec, Sessions): the recorded session as far as its coast, with a mark before its lock; then the mark is restored, and the same windows lock again. Definitions only.
-use Rattle.std.specs.Prelude.{List, [], ◌∷◌, ◌++◌, ◌≡◌, T}
-use Rattle.engine_spec.specs.Cases.{is_there}
+use Rattle.std.specs.Prelude.{List, [], ◌∷◌, ◌++◌, ◌≡◌, T, None, is_some}
 use Rattle.engine_spec.specs.Lists.{Answered}
 use Rattle.engine_spec.specs.Sessions.{Start, Past, state_of, submits, returns, answers_of, AllProper, PromisedOf}
 use Rattle.engine_spec.specs.Sessions.{Turn as SessionTurn}
-use Rattle.engine_spec.specs.declared.types.Milestone.TheVariants as milestone
 use Rattle.engine_spec.specs.declared.types.State.TheVariants as state
 use Rattle.engine_sessions.specs.Session.{Turn, Session, room_for, submissions, all_replied}
 use Rattle.engine_sessions.specs.NotEmpty.{answer_at}
@@ -42,10 +40,10 @@ pub record LocksAgain : Type 0 where
   -- its answers are the Rust's, those after the restore as those after the mark;
   pub answers : rerun_answers ≡ all_replied before_mark ++ (all_replied after_mark ++ all_replied after_mark)
   -- the answer at the mark, the second, is not Locked and has no final milestone; the fifth is and has;
-  pub unlocked : (answer_at rerun_answers 1).snapshot.final_lock_elapsed_ms ≡ milestone.Absent
+  pub unlocked : (answer_at rerun_answers 1).snapshot.final_lock_elapsed_ms ≡ None
   pub locked : (answer_at rerun_answers 4).snapshot.state ≡ state.Locked
-  pub stamped : T (is_there (answer_at rerun_answers 4).snapshot.final_lock_elapsed_ms)
+  pub stamped : T (is_some (answer_at rerun_answers 4).snapshot.final_lock_elapsed_ms)
   -- after the restore, with the seventh, that milestone is gone, and with the ninth it locks again
-  pub back : (answer_at rerun_answers 6).snapshot.final_lock_elapsed_ms ≡ milestone.Absent
+  pub back : (answer_at rerun_answers 6).snapshot.final_lock_elapsed_ms ≡ None
   pub locked_again : (answer_at rerun_answers 8).snapshot.state ≡ state.Locked
-  pub stamped_again : T (is_there (answer_at rerun_answers 8).snapshot.final_lock_elapsed_ms)
+  pub stamped_again : T (is_some (answer_at rerun_answers 8).snapshot.final_lock_elapsed_ms)

@@ -1,5 +1,5 @@
 -- A recorded session of the Rust, and what it is to work it out by the engine's definitions. Definitions only.
-use Rattle.std.specs.Prelude.{ℕ, zero, suc, ◌+◌, ◌-◌, ◌*◌, ◌/◌, true, List, [], ◌∷◌, ◌++◌, ◌≡◌, length, replicate, Float}
+use Rattle.std.specs.Prelude.{ℕ, zero, suc, ◌+◌, ◌-◌, ◌*◌, ◌/◌, true, List, [], ◌∷◌, ◌++◌, ◌≡◌, length, replicate, Float, Some}
 use Rattle.numbers_spec.specs.Arithmetic.{zero⁺}
 use Rattle.matcher_spec.specs.Energy.{reduction}
 use Rattle.matcher_spec.specs.Index.{Index}
@@ -14,10 +14,9 @@ use Rattle.engine_spec.specs.declared.types.Lock.{Lock}
 use Rattle.engine_spec.specs.declared.types.CandidateDiagnostics.{CandidateDiagnostics}
 use Rattle.engine_spec.specs.declared.types.Snapshot.{Snapshot}
 use Rattle.engine_spec.specs.declared.types.Engine.{Engine}
-use Rattle.engine_spec.specs.declared.types.SubmitResult.{SubmitResult}
-use Rattle.engine_spec.specs.declared.types.Endpoint.TheVariants as endpoint
+use Rattle.engine_spec.specs.Results.{SubmitResult}
 use Rattle.engine_spec.specs.declared.types.Refusal.{Refusal}
-use Rattle.engine_spec.specs.declared.types.Answer.TheVariants as answer
+use Rattle.engine_spec.specs.Results as answer
 use Rattle.matcher_spec.specs.Limits.{candidates_most}
 
 -- ---- what is handed in
@@ -71,7 +70,7 @@ outcome e i (answered n l) = record {
     settings = e.settings;
     lock = l;
     milestones = milestones_shown n;
-    last = record { endpoint_ms = endpoint.At (endpoint_of i.window); has_snapshot = true; snapshot = n };
+    last = record { endpoint_ms = Some (endpoint_of i.window); has_snapshot = true; snapshot = n };
   };
   snapshot = n;
 }

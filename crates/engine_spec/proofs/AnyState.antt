@@ -34,14 +34,13 @@ use Rattle.engine_spec.specs.declared.types.Settings.{Settings}
 use Rattle.engine_spec.specs.declared.types.Reached.{Reached}
 use Rattle.engine_spec.specs.declared.types.Lock.{Lock}
 use Rattle.engine_spec.specs.declared.types.Engine.{Engine}
-use Rattle.engine_spec.specs.declared.types.OpenResult.{OpenResult}
-use Rattle.engine_spec.specs.declared.types.SubmitResult.{SubmitResult}
+use Rattle.engine_spec.specs.Results.{OpenResult, SubmitResult}
 use Rattle.engine_spec.specs.declared.types.Hypothesis.{Hypothesis}
 use Rattle.engine_spec.specs.declared.types.State.{State}
 use Rattle.engine_spec.specs.declared.types.State.TheVariants as state
 use Rattle.engine_spec.specs.declared.types.Refusal.{Refusal}
 use Rattle.engine_spec.specs.declared.types.Refusal.TheVariants as refusal
-use Rattle.engine_spec.specs.declared.types.Answer.TheVariants as answer
+use Rattle.engine_spec.specs.Results as answer
 use Rattle.engine_spec.proofs.Tests.{cond_elim, option_elim, none_clash, and_l, and_r}
 use Rattle.engine_spec.proofs.Places.{somewhere}
 

@@ -40,7 +40,7 @@ use Rattle.engine_spec.specs.Publishing.{Decision, of_best, fresh_evidence, cove
 use Rattle.engine_spec.specs.Submitting.{computed_from}
 use Rattle.engine_spec.specs.Lists.{Answered, answers_to, remaining, unanswered}
 use Rattle.engine_spec.specs.Guarantee.{AllHanded}
-use Rattle.engine_spec.specs.Finite.{FiniteMaybe, FiniteMilestone, FiniteEstimate, FiniteCandidate, FiniteSnapshot, FiniteSnapshots}
+use Rattle.engine_spec.specs.Finite.{FiniteNumber, FiniteMilestone, FiniteEstimate, FiniteCandidate, FiniteSnapshot, FiniteSnapshots}
 use Rattle.engine_spec.specs.declared.types.ClockMs.{ClockMs}
 use Rattle.engine_spec.specs.declared.types.Configuration.{Configuration}
 use Rattle.engine_spec.specs.declared.types.Settings.{Settings}
@@ -124,7 +124,7 @@ track_modest : (h : Option Hypothesis) → Bounded h → AtMost track_most (trac
 track_modest None h = zero_modest
 track_modest (Some t) (held O F L C) = C
 
-magnitude_of_lem : (x : Option Float) → FiniteMaybe x → FiniteMaybe (magnitude_of x)
+magnitude_of_lem : (x : Option Float) → FiniteNumber x → FiniteNumber (magnitude_of x)
 unfolding magnitude_of
 magnitude_of_lem None h = tt
 magnitude_of_lem (Some x) h = magnitude_finite x h
@@ -203,7 +203,7 @@ module _ (w : Window) (some : 0 < length w.times) (short : length w.times ≤ wi
         candidates = λ j l. candidate_finite _ (coverage w) coverage_finite _ (blank_finite (candidates_most - length found)) found r.sound j;
         spectral = record {
           correlation = best_finite (λ c. c.score) (λ c m. m.score.at_most_lem) found r;
-          competing_peak_margin = cond_elim FiniteMaybe d.global (Some (margin_of found)) None (λ t. margin_finite found r) (λ t. tt);
+          competing_peak_margin = cond_elim FiniteNumber d.global (Some (margin_of found)) None (λ t. margin_finite found r) (λ t. tt);
           first_half_correlation = best_finite (λ c. c.first_half_score) (λ c m. m.first_half.at_most_lem) found r;
           second_half_correlation = best_finite (λ c. c.second_half_score) (λ c m. m.second_half.at_most_lem) found r;
           recent_correlation = best_finite (λ c. c.recent_score) (λ c m. m.recent.at_most_lem) found r;

@@ -24,9 +24,8 @@ use Rattle.engine_spec.specs.declared.types.Settings.{Settings}
 use Rattle.engine_spec.specs.declared.types.Snapshot.{Snapshot}
 use Rattle.engine_spec.specs.declared.types.Last.{Last}
 use Rattle.engine_spec.specs.declared.types.Engine.{Engine}
-use Rattle.engine_spec.specs.declared.types.SubmitResult.{SubmitResult}
-use Rattle.engine_spec.specs.declared.types.Answer.{Answer}
-use Rattle.engine_spec.specs.declared.types.Answer.TheVariants as answer
+use Rattle.engine_spec.specs.Results.{Answer, SubmitResult}
+use Rattle.engine_spec.specs.Results as answer
 use Rattle.engine_spec.proofs.Tests.{and_l, T-is}
 use Rattle.engine_spec.proofs.Validity.{safe_valid}
 use Rattle.engine_spec.proofs.Openings.{Opening, engine_is, configuration_valid}

@@ -23,6 +23,7 @@ pub mod Sessions
 pub mod AnyState
 pub mod Latest
 pub mod Finite
+pub mod Results
 pub mod Contract
 pub mod Figures
 pub mod Constants

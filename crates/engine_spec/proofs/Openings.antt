@@ -39,9 +39,9 @@ use Rattle.engine_spec.specs.declared.types.Lock.{Lock}
 use Rattle.engine_spec.specs.declared.types.Engine.{Engine}
 use Rattle.engine_spec.specs.declared.types.WithholdReason.{WithholdReason}
 use Rattle.engine_spec.specs.declared.types.WithholdReason.TheVariants as reason
-use Rattle.engine_spec.specs.declared.types.Answer.TheVariants as answer
+use Rattle.engine_spec.specs.Results as answer
 use Rattle.engine_spec.specs.declared.types.Refusal.TheVariants as refusal
-use Rattle.engine_spec.specs.declared.types.OpenResult.{OpenResult}
+use Rattle.engine_spec.specs.Results.{OpenResult}
 use Rattle.engine_spec.proofs.Tests.{cond_elim, option_elim, and_l, and_r, and_i, or_split, or_r, T-is}
 use Rattle.engine_spec.proofs.Effects.{Fair, Sound, trim}
 use Rattle.engine_spec.proofs.Handed.{passed, every_at, near_within, unrefused, near_endpoint, good_window}

@@ -23,8 +23,7 @@ use Rattle.engine_spec.specs.declared.types.RecordedMs.{RecordedMs}
 use Rattle.engine_spec.specs.declared.types.Configuration.{Configuration}
 use Rattle.engine_spec.specs.declared.types.Settings.{Settings}
 use Rattle.engine_spec.specs.declared.types.Engine.{Engine}
-use Rattle.engine_spec.specs.declared.types.SubmitResult.{SubmitResult}
-use Rattle.engine_spec.specs.declared.types.Answer.{Answer}
+use Rattle.engine_spec.specs.Results.{Answer, SubmitResult}
 
 -- A test that comes out both ways.
 pub clash : {A : Type 0} → true ≡ false → A

@@ -30,7 +30,7 @@ use Rattle.engine_spec.specs.Locking.{Searched, is_due, passing, first_evidence,
 use Rattle.engine_spec.specs.Publishing.{Decision, off_track, on_track, verdict_of, decide, estimate_at, publish, offset_of}
 use Rattle.engine_spec.specs.Submitting.{lock_from, computed_from}
 use Rattle.engine_spec.specs.Milestones.{no_milestones, reached_by, stamped_once, stamped_with_final, stamp}
-use Rattle.engine_spec.specs.Finite.{FiniteMaybe}
+use Rattle.engine_spec.specs.Finite.{FiniteNumber}
 use Rattle.engine_spec.specs.declared.types.Reached.{Reached}
 use Rattle.engine_spec.specs.declared.types.Verdict.{Verdict}
 use Rattle.engine_spec.specs.declared.types.RecordedMs.{RecordedMs}
@@ -139,12 +139,12 @@ best_place c b = record { most = at_most_wider found_most place_most c.offset_ms
 record TrackedWell (t : Tracked) : Type 0 where
   accepted : Bounded t.accepted
   found : SoundResult t.found
-  innovation : FiniteMaybe t.innovation
+  innovation : FiniteNumber t.innovation
 
 record SearchedWell (x : Searched) : Type 0 where
   lock : LockBounds x.lock
   found : SoundResult x.found
-  innovation : FiniteMaybe x.innovation
+  innovation : FiniteNumber x.innovation
 
 -- Where nothing is searched, nothing is found.
 nothing_found : SoundResult []
@@ -291,7 +291,7 @@ offset_of_lem (Some h) (held O F L C) = shown O.most
 -- The numbers of a verdict; the coast is at most what a track may coast.
 pub record VerdictWell (v : Verdict) : Type 0 where
   pub offset : Offset v.offset
-  pub innovation : FiniteMaybe v.innovation
+  pub innovation : FiniteNumber v.innovation
   pub coast : AtMost coast_most_ms v.coast
 
 no_coast : AtMost coast_most_ms zero⁺

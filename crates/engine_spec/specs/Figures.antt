@@ -12,7 +12,7 @@ use Rattle.engine_spec.specs.Refusals.{refuses, submission_refusal}
 use Rattle.engine_spec.specs.Submitting.{submit}
 use Rattle.engine_spec.specs.declared.types.RecordedMs.{RecordedMs}
 use Rattle.engine_spec.specs.declared.types.Engine.{Engine}
-use Rattle.engine_spec.specs.declared.types.Answer.TheVariants as answer
+use Rattle.engine_spec.specs.Results as answer
 
 -- 500 and 501
 abbrev pub five_hundred : Float

@@ -15,9 +15,9 @@ use Rattle.engine_spec.specs.declared.types.Estimate.{Estimate}
 
 -- ---- a snapshot's parts
 -- A number that may be missing, a milestone and an estimate: finite where they are there.
-abbrev pub FiniteMaybe : Option Float → Type 0
-FiniteMaybe None = Unit
-FiniteMaybe (Some x) = T (finite x)
+abbrev pub FiniteNumber : Option Float → Type 0
+FiniteNumber None = Unit
+FiniteNumber (Some x) = T (finite x)
 
 abbrev pub FiniteMilestone : Option ClockMs → Type 0
 FiniteMilestone None = Unit
@@ -35,7 +35,7 @@ pub record FiniteCandidate (c : CandidateDiagnostics) : Type 0 where
 
 pub record FiniteSpectral (x : SpectralDiagnostics) : Type 0 where
   pub correlation : T (finite x.correlation)
-  pub competing_peak_margin : FiniteMaybe x.competing_peak_margin
+  pub competing_peak_margin : FiniteNumber x.competing_peak_margin
   pub first_half_correlation : T (finite x.first_half_correlation)
   pub second_half_correlation : T (finite x.second_half_correlation)
   pub recent_correlation : T (finite x.recent_correlation)
@@ -50,8 +50,8 @@ pub record FiniteSnapshot (s : Snapshot) : Type 0 where
   pub query_duration_ms : T (finite s.diagnostics.query_duration_ms)
   pub active_frame_fraction : T (finite s.diagnostics.active_frame_fraction)
   pub dense_margin : T (finite s.diagnostics.dense_margin)
-  pub offset_stability_ms : FiniteMaybe s.diagnostics.offset_stability_ms
-  pub track_innovation_ms : FiniteMaybe s.diagnostics.track_innovation_ms
+  pub offset_stability_ms : FiniteNumber s.diagnostics.offset_stability_ms
+  pub track_innovation_ms : FiniteNumber s.diagnostics.track_innovation_ms
   pub candidates : (k : ℕ) → k < candidates_most → FiniteCandidate (get_or s.diagnostics.candidates k blank_candidate)
   pub spectral : FiniteSpectral s.diagnostics.spectral
   pub first_provisional_lock_elapsed_ms : FiniteMilestone s.first_provisional_lock_elapsed_ms

@@ -25,8 +25,8 @@ use Rattle.engine_spec.specs.declared.types.Settings.{Settings}
 use Rattle.engine_spec.specs.declared.types.Snapshot.{Snapshot}
 use Rattle.engine_spec.specs.declared.types.Engine.{Engine}
 use Rattle.engine_spec.specs.declared.types.State.TheVariants as state
-use Rattle.engine_spec.specs.declared.types.Answer.{Answer}
-use Rattle.engine_spec.specs.declared.types.Answer.TheVariants as answer
+use Rattle.engine_spec.specs.Results.{Answer}
+use Rattle.engine_spec.specs.Results as answer
 
 -- ---- what is asked of the list: index untouched
 -- The four buffers begin with what opening filled in; their tails may be any.

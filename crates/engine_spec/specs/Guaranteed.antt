@@ -1,5 +1,5 @@
 -- What is proved of every state that a fresh engine reaches, besides the guarantee. Definitions only.
-use Rattle.std.specs.Prelude.{ℕ, ◌-◌, ◌≤◌, ◌<◌, true, false, cond, List, [], ◌∷◌, ◌≡◌, T, length, get_or, Float, Option, None, Some}
+use Rattle.std.specs.Prelude.{ℕ, ◌-◌, ◌≤◌, ◌<◌, true, false, cond, List, [], ◌∷◌, ◌≡◌, T, length, get_or, Float, Option, None, Some, Result, IfOk}
 use Rattle.numbers_spec.specs.Rows.{Every, F32}
 use Rattle.matcher_spec.specs.Limits.{candidates_most}
 use Rattle.matcher_spec.specs.Index.{Index}
@@ -14,10 +14,11 @@ use Rattle.engine_spec.specs.Lists.{Answered, answers_to, engine_after, remainin
 use Rattle.engine_spec.specs.Guarantee.{AllHanded, FilledWith, Promised}
 use Rattle.engine_spec.specs.declared.types.Configuration.{Configuration}
 use Rattle.engine_spec.specs.declared.types.Engine.{Engine}
-use Rattle.engine_spec.specs.declared.types.OpenResult.{OpenResult}
+use Rattle.engine_spec.specs.Results.{OpenResult}
 use Rattle.engine_spec.specs.declared.types.State.TheVariants as state
+use Rattle.engine_spec.specs.declared.types.Refusal.{Refusal}
 use Rattle.engine_spec.specs.declared.types.Refusal.TheVariants as refusal
-use Rattle.engine_spec.specs.declared.types.Answer.TheVariants as answer
+use Rattle.engine_spec.specs.Results as answer
 
 -- P holds of the state after every list of submissions to an engine that opening gave.
 abbrev pub OfReached : (Engine → List Submission → Type 0) → Type 0
@@ -86,3 +87,7 @@ pub record Guaranteed (c : Configuration) (hop : Float) (reference : Features) (
   pub never_seven : r.answer ≡ answer.Opened → (l : List Submission) → AllHanded (opened_settings hop reference) (matcher_of_reference hop reference) l
       → (i : Submission) → submission_refusal (engine_after r.engine l) i ≡ handed_refusal r.engine.settings i
   pub index : r.answer ≡ answer.Opened → T (indexed (opened_settings hop reference)) → FilledWith (matcher_of_reference hop reference) filled
+
+-- The same of the `Result` that code gives: of the engine, where there is one.
+abbrev pub GuaranteedOf : Configuration → Float → Features → Index → Result Engine Refusal → Type 0
+GuaranteedOf c hop reference filled r = IfOk r (λ (e : Engine). Guaranteed c hop reference filled (record { answer = answer.Opened; engine = e }))

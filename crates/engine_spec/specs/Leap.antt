@@ -17,7 +17,7 @@ use Rattle.engine_spec.specs.Guarantee.{AllHanded}
 use Rattle.engine_spec.specs.declared.types.Configuration.{Configuration}
 use Rattle.engine_spec.specs.declared.types.Engine.{Engine}
 use Rattle.engine_spec.specs.declared.types.State.TheVariants as state
-use Rattle.engine_spec.specs.declared.types.Answer.TheVariants as answer
+use Rattle.engine_spec.specs.Results as answer
 
 -- ---- the gain: none of the way where no time has passed, and never more than all of it
 abbrev pub GainOfNone : Type 0

@@ -1,4 +1,5 @@
 pub mod Thresholds
+pub mod Results
 pub mod Cases
 pub mod Milestones
 pub mod Windows

@@ -7,8 +7,8 @@ use Rattle.engine_spec.specs.Opening.{blank_snapshot}
 use Rattle.engine_spec.specs.Submitting.{submit}
 use Rattle.engine_spec.specs.declared.types.Snapshot.{Snapshot}
 use Rattle.engine_spec.specs.declared.types.Engine.{Engine}
-use Rattle.engine_spec.specs.declared.types.Answer.{Answer}
-use Rattle.engine_spec.specs.declared.types.Answer.TheVariants as answer
+use Rattle.engine_spec.specs.Results.{Answer}
+use Rattle.engine_spec.specs.Results as answer
 
 -- A submission as it was handed in, and what was answered.
 pub record Answered : Type 0 where

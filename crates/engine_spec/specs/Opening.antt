@@ -15,11 +15,11 @@ use Rattle.engine_spec.specs.declared.types.Lock.{Lock}
 use Rattle.engine_spec.specs.declared.types.CandidateDiagnostics.{CandidateDiagnostics}
 use Rattle.engine_spec.specs.declared.types.Snapshot.{Snapshot}
 use Rattle.engine_spec.specs.declared.types.Engine.{Engine}
-use Rattle.engine_spec.specs.declared.types.OpenResult.{OpenResult}
+use Rattle.engine_spec.specs.Results.{OpenResult}
 use Rattle.engine_spec.specs.declared.types.State.TheVariants as state
 use Rattle.engine_spec.specs.declared.types.LockPhase.TheVariants as phase
 use Rattle.engine_spec.specs.declared.types.Stage.TheVariants as stage
-use Rattle.engine_spec.specs.declared.types.Answer.TheVariants as answer
+use Rattle.engine_spec.specs.Results as answer
 use Rattle.matcher_spec.specs.Limits.{candidates_most}
 
 -- ---- nothing yet

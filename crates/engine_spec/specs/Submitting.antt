@@ -12,10 +12,10 @@ use Rattle.engine_spec.specs.declared.types.Lock.{Lock}
 use Rattle.engine_spec.specs.declared.types.Milestones.{Milestones}
 use Rattle.engine_spec.specs.declared.types.Snapshot.{Snapshot}
 use Rattle.engine_spec.specs.declared.types.Engine.{Engine}
-use Rattle.engine_spec.specs.declared.types.SubmitResult.{SubmitResult}
+use Rattle.engine_spec.specs.Results.{SubmitResult}
 use Rattle.engine_spec.specs.declared.types.Estimate.{Estimate}
 use Rattle.engine_spec.specs.declared.types.Refusal.{Refusal}
-use Rattle.engine_spec.specs.declared.types.Answer.TheVariants as answer
+use Rattle.engine_spec.specs.Results as answer
 
 -- ---- a re-reading: the last snapshot with its estimate moved to this endpoint, state unchanged (document 01)
 abbrev pub moved : RecordedMs → Option Estimate → Option Estimate

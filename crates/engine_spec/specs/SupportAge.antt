@@ -4,7 +4,7 @@ use Rattle.engine_spec.specs.Cases.{is_locked}
 use Rattle.engine_spec.specs.Refusals.{unless, valid_engine}
 use Rattle.engine_spec.specs.declared.types.Snapshot.{Snapshot}
 use Rattle.engine_spec.specs.declared.types.Engine.{Engine}
-use Rattle.engine_spec.specs.declared.types.Age.{Age}
+use Rattle.engine_spec.specs.Results.{Age}
 use Rattle.engine_spec.specs.declared.types.Refusal.TheVariants as refusal
 
 -- The coast of a snapshot that is Locked.

@@ -226,32 +226,18 @@ pub enum Refusal {
     NothingKept,
 }
 
-#[derive(Clone, Copy)]
-pub enum Answer {
-    Opened,
+// How a window was answered that was not refused: computed, or the last snapshot shown again.
+#[derive(Clone, Copy, Debug, PartialEq, Eq)]
+pub enum AnswerKind {
     Computed,
     Reread,
-    Refused(Refusal),
 }
 
-// Where opening is refused, `engine` is one that every submission refuses.
+// What a submission leaves that was not refused: how it was answered, the next engine, and what is
+// shown.
 #[derive(Clone, Copy)]
-pub struct OpenResult {
-    pub answer: Answer,
-    pub engine: Engine,
-}
-
-// Where a submission is refused, `engine` is the one handed in and `snapshot` is blank.
-#[derive(Clone, Copy)]
-pub struct SubmitResult {
-    pub answer: Answer,
+pub struct Submitted {
+    pub answer: AnswerKind,
     pub engine: Engine,
     pub snapshot: Snapshot,
-}
-
-// The coast of the last computed answer, where it was Locked. Refused, or not Locked: absent.
-#[derive(Clone, Copy)]
-pub struct Age {
-    pub refusal: Option<Refusal>,
-    pub coast_ms: Option<f64>,
 }

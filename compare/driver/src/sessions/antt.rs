@@ -69,22 +69,19 @@ fn with_titles<'a>(text: String, submissions: impl Iterator<Item = &'a Submissio
 const HEAD: &str = "\
 -- A session of the Rust, recorded by `compare/run --sessions`, which writes this file: not to be edited by hand. Definitions only.
 -- `fin s m (pos k)` is m × 2^k and `fin s m (negsuc k)` is m × 2^-(k + 1), below zero where s is true.
-use Rattle.std.specs.Prelude.{true, false, [], ◌∷◌, pos, negsuc, Float}
+use Rattle.std.specs.Prelude.{true, false, None, Some, [], ◌∷◌, pos, negsuc, Float}
 use Rattle.std.specs.Float.{fin, inf}
 use Rattle.matcher_spec.specs.Index.{Index}
 use Rattle.engine_spec.specs.Windows.{Window}
 use Rattle.matcher_spec.specs.Features.{Features}
 use Rattle.engine_spec.specs.Opening.{opened_index}
+use Rattle.engine_spec.specs.Tracking.{hypothesis}
 use Rattle.engine_spec.specs.declared.types.Configuration.{Configuration}
 use Rattle.engine_spec.specs.declared.types.Snapshot.{Snapshot}
 use Rattle.engine_spec.specs.declared.types.State.TheVariants as state
 use Rattle.engine_spec.specs.declared.types.LockPhase.TheVariants as phase
 use Rattle.engine_spec.specs.declared.types.Stage.TheVariants as stage
 use Rattle.engine_spec.specs.declared.types.WithholdReason.TheVariants as reason
-use Rattle.engine_spec.specs.declared.types.Estimate.TheVariants as estimate
-use Rattle.engine_spec.specs.declared.types.Maybe.TheVariants as maybe
-use Rattle.engine_spec.specs.declared.types.Milestone.TheVariants as milestone
-use Rattle.engine_spec.specs.declared.types.Hypothesis.TheVariants as hypothesis
 use Rattle.engine_spec.specs.declared.types.Refusal.TheVariants as refusal
 use Rattle.engine_sessions.specs.Session.{Session, Turn, room_for, heard, heard_without_work, eight, refusal, answered}
 ";
@@ -164,34 +161,32 @@ fn refusal_name(number: u8) -> &'static str {
 
 fn lock(kept: &Kept) -> String {
     let (pending, accepted) = (hypothesis(&kept.pending), hypothesis(&kept.accepted));
-    let last = wide(kept.last_global_search_ms);
+    let last = milliseconds(kept.last_global_search_ms);
     record(&format!(
-        "pending = {pending}; accepted = {accepted}; last_global_search_ms = record {{ 0 = {last} }}"
+        "pending = {pending}; accepted = {accepted}; last_global_search_ms = {last}"
     ))
 }
 
 fn hypothesis(hypothesis: &Option<Hypothesis>) -> String {
-    hypothesis.as_ref().map_or("hypothesis.Absent".into(), |h| {
+    some(hypothesis.as_ref().map(|h| {
         format!(
-            "hypothesis.Held ({}) (record {{ 0 = {} }}) (record {{ 0 = {} }}) ({})",
+            "hypothesis ({}) ({}) ({}) ({})",
             wide(h.offset_ms),
-            wide(h.first_evidence_ms),
-            wide(h.last_evidence_ms),
+            milliseconds(h.first_evidence_ms),
+            milliseconds(h.last_evidence_ms),
             wide(h.correlation)
         )
-    })
+    }))
 }
 
 fn snapshot(s: &Snapshot) -> String {
-    let reason = s
-        .withhold_reason
-        .map_or("None".into(), |reason| format!("{reason:?}"));
+    let reason = some(s.withhold_reason.map(|reason| format!("reason.{reason:?}")));
     let fields = [
         format!("state = state.{:?}", s.state),
         format!("phase = phase.{:?}", s.phase),
         format!("stage = stage.{:?}", s.stage),
         format!("estimate = {}", estimate(s.estimate.as_ref())),
-        format!("withhold_reason = reason.{reason}"),
+        named("withhold_reason", reason),
         number("confidence", s.confidence),
         format!("diagnostics = {}", diagnostics(s)),
         milestone(
@@ -205,14 +200,15 @@ fn snapshot(s: &Snapshot) -> String {
 }
 
 fn estimate(estimate: Option<&Estimate>) -> String {
-    estimate.map_or("estimate.Absent".into(), |e| {
-        format!(
-            "estimate.At (record {{ 0 = {} }}) (record {{ 0 = {} }}) ({})",
-            wide(e.query_endpoint_recorded_time_ms),
-            wide(e.reference_time_ms),
-            wide(e.offset_ms)
-        )
-    })
+    some(estimate.map(|e| {
+        let endpoint = milliseconds(e.query_endpoint_recorded_time_ms);
+        let fields = [
+            named("query_endpoint_recorded_time_ms", endpoint),
+            named("reference_time_ms", milliseconds(e.reference_time_ms)),
+            number("offset_ms", e.offset_ms),
+        ];
+        record(&fields.join("; "))
+    }))
 }
 
 fn diagnostics(s: &Snapshot) -> String {
@@ -271,15 +267,19 @@ fn number(name: &str, x: f64) -> String {
 }
 
 fn maybe(name: &str, x: Option<f64>) -> String {
-    let word = x.map_or("maybe.Absent".into(), |x| format!("maybe.Is ({})", wide(x)));
-    named(name, word)
+    named(name, some(x.map(wide)))
 }
 
 fn milestone(name: &str, at: Option<f64>) -> String {
-    let word = at.map_or("milestone.Absent".into(), |at| {
-        format!("milestone.At (record {{ 0 = {} }})", wide(at))
-    });
-    named(name, word)
+    named(name, some(at.map(milliseconds)))
+}
+
+fn some(word: Option<String>) -> String {
+    word.map_or("None".into(), |word| format!("Some ({word})"))
+}
+
+fn milliseconds(x: f64) -> String {
+    record(&number("0", x))
 }
 
 fn plain(name: &str, x: impl Debug) -> String {
