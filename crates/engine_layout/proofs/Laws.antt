@@ -1,18 +1,14 @@
 -- Laws of a row that is written part by part. Assumes nothing.
-use Prim.Native.Nat.{ℕ, zero, suc, ◌+◌, ◌-◌, ◌≤◌, ◌<◌}
+use Prim.Native.Nat.{ℕ, zero, suc, ◌+◌, ◌-◌, ◌≤◌}
 use mathlib.Core.Path.{◌≡◌, refl, sym, ap, ◌∙◌}
 use mathlib.Core.List.{List, [], ◌∷◌, ◌++◌, append_assoc}
 use native.Mathlib.Omega.{arith}
-use lib.ListN.{length, take, drop, get_or, set, length-append, length-drop, drop_of_length-le, take-append-drop}
-use lib.Seq.{take-suc-set, take-suc, length-take-le, drop-cons, drop-append-le, take-append-le, drop_at, drop-drop, take_at, take-length}
+use lib.ListN.{length, take, drop, get_or, length-append, length-drop, drop_of_length-le, take-append-drop}
+use lib.Seq.{length-take-le, drop-cons, drop-append-le, take-append-le, drop_at, drop-drop, take_at, take-length}
 use Rattle.engine_layout.specs.Layout.{part}
 use Rattle.engine_layout.specs.Written.{placed}
 
 module _ {A : Type 0} where
-  -- The next element stored.
-  pub copied : (l m : List A) (i : ℕ) (d : A) → i < length l → i < length m → take i l ≡ take i m → take (suc i) (set l i (get_or m i d)) ≡ take (suc i) m
-  copied l m i d h k e = take-suc-set l i (get_or m i d) h ∙ ap (λ (p : List A). p ++ get_or m i d ∷ []) e ∙ sym (take-suc m i d k)
-
   -- The n elements from k on, one by one.
   unfoldable pub spell : A → ℕ → ℕ → List A → List A
   spell d k zero l = []

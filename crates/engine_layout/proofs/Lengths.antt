@@ -3,6 +3,7 @@ use Prim.Native.Nat.{ℕ, ◌+◌}
 use mathlib.Core.Path.{◌≡◌, refl, ap, ◌∙◌}
 use mathlib.Core.List.{List, [], ◌∷◌, ◌++◌}
 use lib.ListN.{length, length-append}
+use Rattle.std.specs.Prelude.{Option, None, Some}
 use Rattle.matcher_spec.specs.Limits.{candidates_most}
 use Rattle.engine_spec.specs.declared.types.Diagnostics.{Diagnostics}
 use Rattle.engine_spec.specs.declared.types.SpectralDiagnostics.{SpectralDiagnostics}
@@ -16,24 +17,22 @@ use Rattle.engine_spec.specs.declared.types.Lock.{Lock}
 use Rattle.engine_spec.specs.declared.types.Last.{Last}
 use Rattle.engine_spec.specs.declared.types.Engine.{Engine}
 use Rattle.engine_spec.specs.declared.types.Estimate.{Estimate}
-use Rattle.engine_spec.specs.declared.types.Estimate.TheVariants as estimate
 use Rattle.engine_spec.specs.declared.types.Hypothesis.{Hypothesis}
-use Rattle.engine_spec.specs.declared.types.Hypothesis.TheVariants as hypothesis
 use Rattle.engine_layout.specs.Layout.{word}
-use Rattle.engine_layout.specs.Written.{bool_word, state_word, phase_word, stage_word, reason_word, endpoint_tag, endpoint_word, estimate_words, hypothesis_words, milestones_words, spectral_words, candidate_words, candidates_to, diagnostics_numbers, diagnostics_words, shown_words, configuration_words, settings_words, lock_words, last_words, engine_words}
+use Rattle.engine_layout.specs.Written.{bool_word, state_word, phase_word, stage_word, reason_word, tag, word_or_zero, recorded_word, estimate_words, hypothesis_words, milestones_words, spectral_words, candidate_words, candidates_to, diagnostics_numbers, diagnostics_words, shown_words, configuration_words, settings_words, lock_words, last_words, engine_words}
 
 pub both_long : {n m : ℕ} (xs ys : List ℕ) → length xs ≡ n → length ys ≡ m → length (xs ++ ys) ≡ n + m
 both_long {m = m} xs ys p q = length-append xs ys ∙ ap (λ (k : ℕ). length xs + k) q ∙ ap (λ (k : ℕ). k + m) p
 
-pub estimate_long : (e : Estimate) → length (estimate_words e) ≡ 4
+pub estimate_long : (e : Option Estimate) → length (estimate_words e) ≡ 4
 unfolding estimate_words
-estimate_long estimate.Absent = refl
-estimate_long (estimate.At recorded reference offset) = refl
+estimate_long None = refl
+estimate_long (Some e) = refl
 
-pub hypothesis_long : (h : Hypothesis) → length (hypothesis_words h) ≡ 5
+pub hypothesis_long : (h : Option Hypothesis) → length (hypothesis_words h) ≡ 5
 unfolding hypothesis_words
-hypothesis_long hypothesis.Absent = refl
-hypothesis_long (hypothesis.Held offset first last correlation) = refl
+hypothesis_long None = refl
+hypothesis_long (Some h) = refl
 
 pub milestones_long : (m : Milestones) → length (milestones_words m) ≡ 6
 unfolding milestones_words
@@ -84,7 +83,7 @@ lock_long l =
 
 pub last_long : (l : Last) → length (last_words l) ≡ 79
 unfolding last_words
-last_long l = both_long (endpoint_tag l.endpoint_ms ∷ endpoint_word l.endpoint_ms ∷ bool_word l.has_snapshot ∷ []) (shown_words l.snapshot) refl (shown_long l.snapshot)
+last_long l = both_long (tag l.endpoint_ms ∷ word_or_zero recorded_word l.endpoint_ms ∷ bool_word l.has_snapshot ∷ []) (shown_words l.snapshot) refl (shown_long l.snapshot)
 
 pub engine_long : (e : Engine) → length (engine_words e) ≡ 105
 unfolding engine_words

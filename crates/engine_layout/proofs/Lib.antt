@@ -1,4 +1,3 @@
-pub mod Floats
 pub mod Laws
 pub mod EightRows
 pub mod Lengths

@@ -19,10 +19,13 @@
 --   70 .. 75                  milestones: as a state's
 --
 -- As words of a slice of its own a snapshot is 77: the layout number first.
-use Rattle.std.specs.Prelude.{ℕ, ◌%◌, ◌^◌, Bool, cond, List, [], ◌∷◌, eqb, take, drop, get_or, Float}
+use Rattle.std.specs.Prelude.{ℕ, ◌%◌, ◌^◌, Bool, cond, List, [], ◌∷◌, eqb, take, drop, get_or, Float, Option, None, Some}
 use Rattle.std.specs.Float.{binary64}
 use Rattle.std.specs.Float.Ieee.{to_bits, of_bits}
 use Rattle.engine_spec.specs.Opening.{no_engine}
+use Rattle.engine_spec.specs.declared.types.RecordedMs.{RecordedMs}
+use Rattle.engine_spec.specs.declared.types.ReferenceMs.{ReferenceMs}
+use Rattle.engine_spec.specs.declared.types.ClockMs.{ClockMs}
 use Rattle.engine_spec.specs.declared.types.Configuration.{Configuration}
 use Rattle.engine_spec.specs.declared.types.Settings.{Settings}
 use Rattle.engine_spec.specs.declared.types.Lock.{Lock}
@@ -34,15 +37,7 @@ use Rattle.engine_spec.specs.declared.types.SpectralDiagnostics.{SpectralDiagnos
 use Rattle.engine_spec.specs.declared.types.Diagnostics.{Diagnostics}
 use Rattle.engine_spec.specs.declared.types.Snapshot.{Snapshot}
 use Rattle.engine_spec.specs.declared.types.Hypothesis.{Hypothesis}
-use Rattle.engine_spec.specs.declared.types.Hypothesis.TheVariants as hypothesis
-use Rattle.engine_spec.specs.declared.types.Maybe.{Maybe}
-use Rattle.engine_spec.specs.declared.types.Maybe.TheVariants as maybe
-use Rattle.engine_spec.specs.declared.types.Milestone.{Milestone}
-use Rattle.engine_spec.specs.declared.types.Milestone.TheVariants as milestone
-use Rattle.engine_spec.specs.declared.types.Endpoint.{Endpoint}
-use Rattle.engine_spec.specs.declared.types.Endpoint.TheVariants as endpoint
 use Rattle.engine_spec.specs.declared.types.Estimate.{Estimate}
-use Rattle.engine_spec.specs.declared.types.Estimate.TheVariants as estimate
 use Rattle.engine_spec.specs.declared.types.LockPhase.{LockPhase}
 use Rattle.engine_spec.specs.declared.types.LockPhase.TheVariants as phase
 use Rattle.engine_spec.specs.declared.types.Stage.{Stage}
@@ -71,6 +66,16 @@ word x = to_bits binary64 x
 abbrev pub float : ℕ → Float
 float n = of_bits binary64 n
 
+-- A time is read as its number.
+abbrev pub recorded_of : ℕ → RecordedMs
+recorded_of n = record { 0 = float n }
+
+abbrev pub reference_of : ℕ → ReferenceMs
+reference_of n = record { 0 = float n }
+
+abbrev pub clock_of : ℕ → ClockMs
+clock_of n = record { 0 = float n }
+
 abbrev pub bool_of : ℕ → Bool
 bool_of n = eqb n 1
 
@@ -82,7 +87,7 @@ count_of n = n % 2 ^ 16
 abbrev pub part : ℕ → ℕ → List ℕ → List ℕ
 part a k w = take k (drop a w)
 
--- ---- an enum without numbers: its place in the declaration; a number out of range is the last
+-- ---- an enum: its place in the declaration; a number out of range is the last
 unfoldable pub state_of : ℕ → State
 state_of n =
     cond (eqb n 0) state.Ready
@@ -108,54 +113,58 @@ stage_of n =
     (cond (eqb n 3) stage.RobustVerify
     (cond (eqb n 4) stage.Tracking stage.Relock))))
 
-unfoldable pub reason_of : ℕ → WithholdReason
+-- Why nothing is shown: 0 where there is no reason, else a reason's place, from 1.
+unfoldable pub reason_of : ℕ → Option WithholdReason
 reason_of n =
-    cond (eqb n 0) reason.None
-    (cond (eqb n 1) reason.InsufficientDuration
-    (cond (eqb n 2) reason.InsufficientEnergy
-    (cond (eqb n 3) reason.InsufficientActiveFrames
-    (cond (eqb n 4) reason.InsufficientLandmarkEvidence
-    (cond (eqb n 5) reason.WeakAlignmentPeak
-    (cond (eqb n 6) reason.AmbiguousOffset
-    (cond (eqb n 7) reason.UnstableTrackingResidual
-    (cond (eqb n 8) reason.LostSignal
-    (cond (eqb n 9) reason.DecodeFailed reason.IndexUnavailable)))))))))
+    cond (eqb n 0) None
+    (cond (eqb n 1) (Some reason.InsufficientDuration)
+    (cond (eqb n 2) (Some reason.InsufficientEnergy)
+    (cond (eqb n 3) (Some reason.InsufficientActiveFrames)
+    (cond (eqb n 4) (Some reason.InsufficientLandmarkEvidence)
+    (cond (eqb n 5) (Some reason.WeakAlignmentPeak)
+    (cond (eqb n 6) (Some reason.AmbiguousOffset)
+    (cond (eqb n 7) (Some reason.UnstableTrackingResidual)
+    (cond (eqb n 8) (Some reason.LostSignal)
+    (cond (eqb n 9) (Some reason.DecodeFailed) (Some reason.IndexUnavailable))))))))))
 
--- ---- an enum with numbers: a tag, and the numbers; any tag but 1 is absent
-unfoldable pub maybe_of : ℕ → ℕ → Maybe
-maybe_of tag n = cond (eqb tag 1) (maybe.Is (float n)) maybe.Absent
+-- ---- a value that may be missing: a tag, and the value; any tag but 1 is none
+unfoldable pub option_of : {A : Type 0} → (ℕ → A) → ℕ → ℕ → Option A
+option_of of_word tag n = cond (eqb tag 1) (Some (of_word n)) None
 
-unfoldable pub milestone_of : ℕ → ℕ → Milestone
-milestone_of tag n = cond (eqb tag 1) (milestone.At (record { 0 = float n })) milestone.Absent
-
-unfoldable pub endpoint_of : ℕ → ℕ → Endpoint
-endpoint_of tag n = cond (eqb tag 1) (endpoint.At (record { 0 = float n })) endpoint.Absent
-
-unfoldable pub estimate_of : List ℕ → Estimate
+unfoldable pub estimate_of : List ℕ → Option Estimate
 estimate_of w =
     cond (eqb (get_or w 0 0) 1)
-    (estimate.At (record { 0 = float (get_or w 1 0) }) (record { 0 = float (get_or w 2 0) }) (float (get_or w 3 0)))
-    estimate.Absent
+    (Some (record {
+      query_endpoint_recorded_time_ms = recorded_of (get_or w 1 0);
+      reference_time_ms = reference_of (get_or w 2 0);
+      offset_ms = float (get_or w 3 0);
+    }))
+    None
 
-unfoldable pub hypothesis_of : List ℕ → Hypothesis
+unfoldable pub hypothesis_of : List ℕ → Option Hypothesis
 hypothesis_of w =
     cond (eqb (get_or w 0 0) 1)
-    (hypothesis.Held (float (get_or w 1 0)) (record { 0 = float (get_or w 2 0) }) (record { 0 = float (get_or w 3 0) }) (float (get_or w 4 0)))
-    hypothesis.Absent
+    (Some (record {
+      offset_ms = float (get_or w 1 0);
+      first_evidence_ms = recorded_of (get_or w 2 0);
+      last_evidence_ms = recorded_of (get_or w 3 0);
+      correlation = float (get_or w 4 0);
+    }))
+    None
 
 -- ---- a snapshot
 unfoldable pub milestones_of : List ℕ → Milestones
 milestones_of w = record {
-  first_provisional_ms = milestone_of (get_or w 0 0) (get_or w 1 0);
-  confirmed_ms = milestone_of (get_or w 2 0) (get_or w 3 0);
-  final_ms = milestone_of (get_or w 4 0) (get_or w 5 0);
+  first_provisional_ms = option_of clock_of (get_or w 0 0) (get_or w 1 0);
+  confirmed_ms = option_of clock_of (get_or w 2 0) (get_or w 3 0);
+  final_ms = option_of clock_of (get_or w 4 0) (get_or w 5 0);
 }
 
 unfoldable pub spectral_of : List ℕ → SpectralDiagnostics
 spectral_of w = record {
   global_search = bool_of (get_or w 0 0);
   correlation = float (get_or w 1 0);
-  competing_peak_margin = maybe_of (get_or w 2 0) (get_or w 3 0);
+  competing_peak_margin = option_of float (get_or w 2 0) (get_or w 3 0);
   first_half_correlation = float (get_or w 4 0);
   second_half_correlation = float (get_or w 5 0);
   recent_correlation = float (get_or w 6 0);
@@ -192,8 +201,8 @@ diagnostics_with w candidates spectral = record {
   active_frame_fraction = float (get_or w 1 0);
   coarse_ambiguous = bool_of (get_or w 2 0);
   dense_margin = float (get_or w 3 0);
-  offset_stability_ms = maybe_of (get_or w 4 0) (get_or w 5 0);
-  track_innovation_ms = maybe_of (get_or w 6 0) (get_or w 7 0);
+  offset_stability_ms = option_of float (get_or w 4 0) (get_or w 5 0);
+  track_innovation_ms = option_of float (get_or w 6 0) (get_or w 7 0);
   track_count = get_or w 8 0;
   offset_tracker_confirmed = bool_of (get_or w 9 0);
   offset_tracker_stable = bool_of (get_or w 10 0);
@@ -240,19 +249,19 @@ settings_of w = record {
   hop_ms = float (get_or w 0 0);
   reference_frames = count_of (get_or w 1 0);
   reference_bands = count_of (get_or w 2 0);
-  reference_start_ms = record { 0 = float (get_or w 3 0) };
+  reference_start_ms = reference_of (get_or w 3 0);
 }
 
 unfoldable pub lock_of : List ℕ → Lock
 lock_of w = record {
   pending = hypothesis_of (part 0 5 w);
   accepted = hypothesis_of (part 5 5 w);
-  last_global_search_ms = record { 0 = float (get_or w 10 0) };
+  last_global_search_ms = recorded_of (get_or w 10 0);
 }
 
 unfoldable pub last_of : List ℕ → Last
 last_of w = record {
-  endpoint_ms = endpoint_of (get_or w 0 0) (get_or w 1 0);
+  endpoint_ms = option_of recorded_of (get_or w 0 0) (get_or w 1 0);
   has_snapshot = bool_of (get_or w 2 0);
   snapshot = snapshot_of (part 3 76 w);
 }

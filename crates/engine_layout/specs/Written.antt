@@ -1,9 +1,13 @@
 -- A state and a snapshot as words: what is written. Numbers that are absent are written as zeros. Definitions only.
-use Rattle.std.specs.Prelude.{ℕ, zero, suc, Bool, cond, List, [], ◌∷◌, ◌++◌, ◌≡◌, length, take, drop, get_or}
+use Rattle.std.specs.Prelude.{ℕ, zero, suc, Bool, cond, List, [], ◌∷◌, ◌++◌, ◌≡◌, length, take, drop, get_or, Option, None, Some, is_some}
+use Rattle.std.specs.Option.{option_map_or}
 use Rattle.std.specs.Float.{nan}
 use Rattle.matcher_spec.specs.Limits.{candidates_most}
 use Rattle.engine_layout.specs.Layout.{layout, word, state_in}
 use Rattle.engine_spec.specs.Milestones.{milestones_shown}
+use Rattle.engine_spec.specs.declared.types.RecordedMs.{RecordedMs}
+use Rattle.engine_spec.specs.declared.types.ReferenceMs.{ReferenceMs}
+use Rattle.engine_spec.specs.declared.types.ClockMs.{ClockMs}
 use Rattle.engine_spec.specs.declared.types.Configuration.{Configuration}
 use Rattle.engine_spec.specs.declared.types.Settings.{Settings}
 use Rattle.engine_spec.specs.declared.types.Lock.{Lock}
@@ -15,15 +19,7 @@ use Rattle.engine_spec.specs.declared.types.SpectralDiagnostics.{SpectralDiagnos
 use Rattle.engine_spec.specs.declared.types.Diagnostics.{Diagnostics}
 use Rattle.engine_spec.specs.declared.types.Snapshot.{Snapshot}
 use Rattle.engine_spec.specs.declared.types.Hypothesis.{Hypothesis}
-use Rattle.engine_spec.specs.declared.types.Hypothesis.TheVariants as hypothesis
-use Rattle.engine_spec.specs.declared.types.Maybe.{Maybe}
-use Rattle.engine_spec.specs.declared.types.Maybe.TheVariants as maybe
-use Rattle.engine_spec.specs.declared.types.Milestone.{Milestone}
-use Rattle.engine_spec.specs.declared.types.Milestone.TheVariants as milestone
-use Rattle.engine_spec.specs.declared.types.Endpoint.{Endpoint}
-use Rattle.engine_spec.specs.declared.types.Endpoint.TheVariants as endpoint
 use Rattle.engine_spec.specs.declared.types.Estimate.{Estimate}
-use Rattle.engine_spec.specs.declared.types.Estimate.TheVariants as estimate
 use Rattle.engine_spec.specs.declared.types.LockPhase.{LockPhase}
 use Rattle.engine_spec.specs.declared.types.LockPhase.TheVariants as phase
 use Rattle.engine_spec.specs.declared.types.Stage.{Stage}
@@ -36,6 +32,15 @@ use Rattle.engine_spec.specs.declared.types.State.TheVariants as state
 -- ---- one word
 abbrev pub bool_word : Bool → ℕ
 bool_word b = cond b 1 0
+
+abbrev pub recorded_word : RecordedMs → ℕ
+recorded_word t = word t.0
+
+abbrev pub reference_word : ReferenceMs → ℕ
+reference_word t = word t.0
+
+abbrev pub clock_word : ClockMs → ℕ
+clock_word t = word t.0
 
 unfoldable pub state_word : State → ℕ
 state_word state.Ready = 0
@@ -62,69 +67,53 @@ stage_word stage.RobustVerify = 3
 stage_word stage.Tracking = 4
 stage_word stage.Relock = 5
 
-unfoldable pub reason_word : WithholdReason → ℕ
-reason_word reason.None = 0
-reason_word reason.InsufficientDuration = 1
-reason_word reason.InsufficientEnergy = 2
-reason_word reason.InsufficientActiveFrames = 3
-reason_word reason.InsufficientLandmarkEvidence = 4
-reason_word reason.WeakAlignmentPeak = 5
-reason_word reason.AmbiguousOffset = 6
-reason_word reason.UnstableTrackingResidual = 7
-reason_word reason.LostSignal = 8
-reason_word reason.DecodeFailed = 9
-reason_word reason.IndexUnavailable = 10
+unfoldable pub reason_word : Option WithholdReason → ℕ
+reason_word None = 0
+reason_word (Some reason.InsufficientDuration) = 1
+reason_word (Some reason.InsufficientEnergy) = 2
+reason_word (Some reason.InsufficientActiveFrames) = 3
+reason_word (Some reason.InsufficientLandmarkEvidence) = 4
+reason_word (Some reason.WeakAlignmentPeak) = 5
+reason_word (Some reason.AmbiguousOffset) = 6
+reason_word (Some reason.UnstableTrackingResidual) = 7
+reason_word (Some reason.LostSignal) = 8
+reason_word (Some reason.DecodeFailed) = 9
+reason_word (Some reason.IndexUnavailable) = 10
 
--- ---- an enum with numbers: a tag, and the numbers
-unfoldable pub maybe_tag : Maybe → ℕ
-maybe_tag maybe.Absent = 0
-maybe_tag (maybe.Is x) = 1
+-- ---- a value that may be missing: a tag, and the value
+abbrev pub tag : {A : Type 0} → Option A → ℕ
+tag x = bool_word (is_some x)
 
-unfoldable pub maybe_word : Maybe → ℕ
-maybe_word maybe.Absent = 0
-maybe_word (maybe.Is x) = word x
+abbrev pub word_or_zero : {A : Type 0} → (A → ℕ) → Option A → ℕ
+word_or_zero word_of x = option_map_or word_of x 0
 
-unfoldable pub milestone_tag : Milestone → ℕ
-milestone_tag milestone.Absent = 0
-milestone_tag (milestone.At t) = 1
+unfoldable pub estimate_words : Option Estimate → List ℕ
+estimate_words None = 0 ∷ 0 ∷ 0 ∷ 0 ∷ []
+estimate_words (Some e) =
+    1 ∷ recorded_word e.query_endpoint_recorded_time_ms ∷ reference_word e.reference_time_ms ∷ word e.offset_ms ∷ []
 
-unfoldable pub milestone_word : Milestone → ℕ
-milestone_word milestone.Absent = 0
-milestone_word (milestone.At t) = word t.0
-
-unfoldable pub endpoint_tag : Endpoint → ℕ
-endpoint_tag endpoint.Absent = 0
-endpoint_tag (endpoint.At t) = 1
-
-unfoldable pub endpoint_word : Endpoint → ℕ
-endpoint_word endpoint.Absent = 0
-endpoint_word (endpoint.At t) = word t.0
-
-unfoldable pub estimate_words : Estimate → List ℕ
-estimate_words estimate.Absent = 0 ∷ 0 ∷ 0 ∷ 0 ∷ []
-estimate_words (estimate.At recorded reference offset) = 1 ∷ word recorded.0 ∷ word reference.0 ∷ word offset ∷ []
-
-unfoldable pub hypothesis_words : Hypothesis → List ℕ
-hypothesis_words hypothesis.Absent = 0 ∷ 0 ∷ 0 ∷ 0 ∷ 0 ∷ []
-hypothesis_words (hypothesis.Held offset first last correlation) = 1 ∷ word offset ∷ word first.0 ∷ word last.0 ∷ word correlation ∷ []
+unfoldable pub hypothesis_words : Option Hypothesis → List ℕ
+hypothesis_words None = 0 ∷ 0 ∷ 0 ∷ 0 ∷ 0 ∷ []
+hypothesis_words (Some h) =
+    1 ∷ word h.offset_ms ∷ recorded_word h.first_evidence_ms ∷ recorded_word h.last_evidence_ms ∷ word h.correlation ∷ []
 
 -- ---- a snapshot
 unfoldable pub milestones_words : Milestones → List ℕ
 milestones_words m =
-    milestone_tag m.first_provisional_ms
-    ∷ milestone_word m.first_provisional_ms
-    ∷ milestone_tag m.confirmed_ms
-    ∷ milestone_word m.confirmed_ms
-    ∷ milestone_tag m.final_ms
-    ∷ milestone_word m.final_ms
+    tag m.first_provisional_ms
+    ∷ word_or_zero clock_word m.first_provisional_ms
+    ∷ tag m.confirmed_ms
+    ∷ word_or_zero clock_word m.confirmed_ms
+    ∷ tag m.final_ms
+    ∷ word_or_zero clock_word m.final_ms
     ∷ []
 
 unfoldable pub spectral_words : SpectralDiagnostics → List ℕ
 spectral_words s =
     bool_word s.global_search
     ∷ word s.correlation
-    ∷ maybe_tag s.competing_peak_margin
-    ∷ maybe_word s.competing_peak_margin
+    ∷ tag s.competing_peak_margin
+    ∷ word_or_zero word s.competing_peak_margin
     ∷ word s.first_half_correlation
     ∷ word s.second_half_correlation
     ∷ word s.recent_correlation
@@ -155,10 +144,10 @@ diagnostics_numbers d =
     ∷ word d.active_frame_fraction
     ∷ bool_word d.coarse_ambiguous
     ∷ word d.dense_margin
-    ∷ maybe_tag d.offset_stability_ms
-    ∷ maybe_word d.offset_stability_ms
-    ∷ maybe_tag d.track_innovation_ms
-    ∷ maybe_word d.track_innovation_ms
+    ∷ tag d.offset_stability_ms
+    ∷ word_or_zero word d.offset_stability_ms
+    ∷ tag d.track_innovation_ms
+    ∷ word_or_zero word d.track_innovation_ms
     ∷ d.track_count
     ∷ bool_word d.offset_tracker_confirmed
     ∷ bool_word d.offset_tracker_stable
@@ -187,13 +176,13 @@ configuration_words c =
     ∷ []
 
 unfoldable pub settings_words : Settings → List ℕ
-settings_words s = word s.hop_ms ∷ s.reference_frames ∷ s.reference_bands ∷ word s.reference_start_ms.0 ∷ []
+settings_words s = word s.hop_ms ∷ s.reference_frames ∷ s.reference_bands ∷ reference_word s.reference_start_ms ∷ []
 
 unfoldable pub lock_words : Lock → List ℕ
-lock_words l = hypothesis_words l.pending ++ hypothesis_words l.accepted ++ (word l.last_global_search_ms.0 ∷ [])
+lock_words l = hypothesis_words l.pending ++ hypothesis_words l.accepted ++ (recorded_word l.last_global_search_ms ∷ [])
 
 unfoldable pub last_words : Last → List ℕ
-last_words l = (endpoint_tag l.endpoint_ms ∷ endpoint_word l.endpoint_ms ∷ bool_word l.has_snapshot ∷ []) ++ shown_words l.snapshot
+last_words l = (tag l.endpoint_ms ∷ word_or_zero recorded_word l.endpoint_ms ∷ bool_word l.has_snapshot ∷ []) ++ shown_words l.snapshot
 
 unfoldable pub engine_words : Engine → List ℕ
 engine_words e = configuration_words e.configuration ++ settings_words e.settings ++ lock_words e.lock ++ milestones_words e.milestones ++ last_words e.last

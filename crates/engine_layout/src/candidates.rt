@@ -5,33 +5,35 @@ ghost use Rattle.engine_layout.specs.Written.{candidate_words, candidates_to, pl
 ghost use Rattle.matcher_spec.specs.Limits.{candidates_most};
 
 use crate::rows::put;
-use crate::values::{float_word, word_float};
+use crate::word::Word;
 use engine_spec::types::CandidateDiagnostics;
 use matcher_spec::limits::CANDIDATES_MOST;
 
+#[tactic(auto, unfolding(crate::specs::Layout::candidate_of, crate::specs::Written::candidate_words))]
 pub fn candidate_words(c: CandidateDiagnostics) -> [u64; 5]
     ensures value { result ≡ candidate_words c }
     ensures back { candidate_of result ≡ c }
 {
     [
-        float_word(c.offset_ms),
-        float_word(c.coarse_offset_ms),
-        c.comparable_frame_count as u64,
-        float_word(c.coverage_ratio),
-        float_word(c.combined_dense_score),
+        c.offset_ms.to_word(),
+        c.coarse_offset_ms.to_word(),
+        c.comparable_frame_count.to_word(),
+        c.coverage_ratio.to_word(),
+        c.combined_dense_score.to_word(),
     ]
 }
 
+#[tactic(auto, unfolding(crate::specs::Layout::candidate_of))]
 pub fn candidate_of(words: &[u64]) -> CandidateDiagnostics
     requires { length words.now ≡ 5 }
     ensures { result ≡ candidate_of words.now }
 {
     CandidateDiagnostics {
-        offset_ms: word_float(words[0]),
-        coarse_offset_ms: word_float(words[1]),
-        comparable_frame_count: words[2] as usize,
-        coverage_ratio: word_float(words[3]),
-        combined_dense_score: word_float(words[4]),
+        offset_ms: f64::from_word(words[0]),
+        coarse_offset_ms: f64::from_word(words[1]),
+        comparable_frame_count: usize::from_word(words[2]),
+        coverage_ratio: f64::from_word(words[3]),
+        combined_dense_score: f64::from_word(words[4]),
     }
 }
 
@@ -44,15 +46,13 @@ pub fn put_candidates(
     ensures words_after { words.new ≡ placed at (candidates_to candidates_most candidates) words.old }
     ensures back { candidates_of (candidates_to candidates_most candidates) ≡ candidates }
 {
-    let mut i: usize = 0;
-    while i < CANDIDATES_MOST {
-        let candidate = candidates[i];
-        let row = candidate_words(candidate);
+    for i in 0..CANDIDATES_MOST {
+        let row = candidate_words(candidates[i]);
         put(words, at + i * 5, &row);
-        i += 1;
     }
 }
 
+#[tactic(auto, unfolding(crate::specs::Layout::candidates_of))]
 pub fn candidates_of(words: &[u64]) -> [CandidateDiagnostics; CANDIDATES_MOST]
     requires { length words.now ≡ 40 }
     ensures { result ≡ candidates_of words.now }

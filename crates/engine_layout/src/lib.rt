@@ -1,8 +1,7 @@
-// The layout of a state and a snapshot in words (specs/Layout.antt), and the words of single values.
+// The layout of a state and a snapshot in words (specs/Layout.antt), and the words of values.
 #![tactic(auto)]
 
 pub mod candidates;
 pub mod options;
 pub mod rows;
-pub mod values;
-pub mod variants;
+pub mod word;

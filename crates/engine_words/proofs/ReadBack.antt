@@ -1,11 +1,11 @@
 -- What was written is read back, part by part. Assumes nothing.
 use Prim.Native.Nat.{ℕ, ◌+◌, ◌≤◌}
-use mathlib.Core.Path.{◌≡◌, refl, ap, ◌∙◌}
-use mathlib.Core.Bool.{Bool, true, false}
+use mathlib.Core.Path.{◌≡◌, refl, sym, ap, ◌∙◌}
 use mathlib.Core.List.{List, [], ◌∷◌, ◌++◌}
 use native.Mathlib.Omega.{arith}
 use lib.ListN.{length, drop, get_or}
 use lib.Seq.{take_all, take_at, get_or_at}
+use Rattle.std.specs.Prelude.{Option, None, Some}
 use Rattle.engine_spec.specs.Milestones.{milestones_shown}
 use Rattle.engine_spec.specs.declared.types.Diagnostics.{Diagnostics}
 use Rattle.engine_spec.specs.declared.types.Snapshot.{Snapshot}
@@ -13,66 +13,14 @@ use Rattle.engine_spec.specs.declared.types.Lock.{Lock}
 use Rattle.engine_spec.specs.declared.types.Last.{Last}
 use Rattle.engine_spec.specs.declared.types.Engine.{Engine}
 use Rattle.engine_spec.specs.declared.types.Estimate.{Estimate}
-use Rattle.engine_spec.specs.declared.types.Estimate.TheVariants as estimate
-use Rattle.engine_spec.specs.declared.types.State.{State}
-use Rattle.engine_spec.specs.declared.types.State.TheVariants as state
-use Rattle.engine_spec.specs.declared.types.LockPhase.{LockPhase}
-use Rattle.engine_spec.specs.declared.types.LockPhase.TheVariants as phase
-use Rattle.engine_spec.specs.declared.types.Stage.{Stage}
-use Rattle.engine_spec.specs.declared.types.Stage.TheVariants as stage
-use Rattle.engine_spec.specs.declared.types.WithholdReason.{WithholdReason}
-use Rattle.engine_spec.specs.declared.types.WithholdReason.TheVariants as reason
-use Rattle.engine_layout.specs.Layout.{layout, float, bool_of, part, state_of, phase_of, stage_of, reason_of, endpoint_of, estimate_of, hypothesis_of, milestones_of, spectral_of, candidates_of, diagnostics_with, diagnostics_of, snapshot_of, snapshot_in, configuration_of, settings_of, lock_of, last_of, engine_of, state_in}
-use Rattle.engine_layout.specs.Written.{bool_word, state_word, phase_word, stage_word, reason_word, estimate_words, engine_words, placed, state_as_words, ReadsBack}
+use Rattle.engine_layout.specs.Layout.{layout, float, bool_of, part, state_of, phase_of, stage_of, reason_of, option_of, recorded_of, estimate_of, hypothesis_of, milestones_of, spectral_of, candidates_of, diagnostics_with, diagnostics_of, snapshot_of, snapshot_in, configuration_of, settings_of, lock_of, last_of, engine_of, state_in}
+use Rattle.engine_layout.specs.Written.{estimate_words, engine_words, placed, state_as_words, ReadsBack}
 use Rattle.engine_layout.proofs.Laws.{Laid, last_part, front_part, placed_tail}
 use Rattle.engine_layout.proofs.Lengths.{both_long, engine_long}
 
--- ---- one word
-pub bool_back : (b : Bool) → bool_of (bool_word b) ≡ b
-bool_back true = refl
-bool_back false = refl
-
-pub state_back : (x : State) → state_of (state_word x) ≡ x
-unfolding state_of state_word
-state_back state.Ready = refl
-state_back state.Listening = refl
-state_back state.Locking = refl
-state_back state.Confirmed = refl
-state_back state.Locked = refl
-state_back state.Drifting = refl
-state_back state.Relocking = refl
-state_back state.Lost = refl
-state_back state.Failed = refl
-
-pub phase_back : (x : LockPhase) → phase_of (phase_word x) ≡ x
-unfolding phase_of phase_word
-phase_back phase.None = refl
-phase_back phase.Provisional = refl
-phase_back phase.Confirmed = refl
-phase_back phase.Final = refl
-
-pub stage_back : (x : Stage) → stage_of (stage_word x) ≡ x
-unfolding stage_of stage_word
-stage_back stage.Readiness = refl
-stage_back stage.LandmarkCoarse = refl
-stage_back stage.FastTimingVerify = refl
-stage_back stage.RobustVerify = refl
-stage_back stage.Tracking = refl
-stage_back stage.Relock = refl
-
-pub reason_back : (x : WithholdReason) → reason_of (reason_word x) ≡ x
-unfolding reason_of reason_word
-reason_back reason.None = refl
-reason_back reason.InsufficientDuration = refl
-reason_back reason.InsufficientEnergy = refl
-reason_back reason.InsufficientActiveFrames = refl
-reason_back reason.InsufficientLandmarkEvidence = refl
-reason_back reason.WeakAlignmentPeak = refl
-reason_back reason.AmbiguousOffset = refl
-reason_back reason.UnstableTrackingResidual = refl
-reason_back reason.LostSignal = refl
-reason_back reason.DecodeFailed = refl
-reason_back reason.IndexUnavailable = refl
+-- What a function wrote, a reader gives back: so it does of the definition's words.
+pub given_back : {A B : Type 0} (read : A → B) {written words : A} {x : B} → written ≡ words → read written ≡ x → read words ≡ x
+given_back read value back = ap read (sym value) ∙ back
 
 -- ---- a snapshot
 whole : (n : ℕ) (xs : List ℕ) → length xs ≡ n → part 0 n xs ≡ xs
@@ -88,41 +36,36 @@ diagnostics_back d n c s ln lc ls pn pc ps =
     let es : part 52 9 (n ++ c ++ s) ≡ s = last_part 52 9 (n ++ c) s l ls in
     simp (en, ec, es, pc, ps, pn)
 
-pub snapshot_back : (s : Snapshot) (x : Estimate) (a b c r f : ℕ) (d m : List ℕ) → length d ≡ 61 → length m ≡ 6
+snapshot_parts : (s : Snapshot) (x : Option Estimate) (a b c e0 e1 e2 e3 r f : ℕ) (d m : List ℕ) → estimate_words x ≡ e0 ∷ e1 ∷ e2 ∷ e3 ∷ [] → length d ≡ 61 → length m ≡ 6
     → state_of a ≡ s.state → phase_of b ≡ s.phase → stage_of c ≡ s.stage → estimate_of (estimate_words x) ≡ s.estimate → reason_of r ≡ s.withhold_reason → float f ≡ s.confidence
     → diagnostics_of d ≡ s.diagnostics → milestones_of m ≡ milestones_shown s → snapshot_of ((a ∷ b ∷ c ∷ []) ++ estimate_words x ++ (r ∷ f ∷ []) ++ d ++ m) ≡ s
-unfolding snapshot_of estimate_words
-snapshot_back s estimate.Absent a b c r f d m ld lm pa pb pc px pr pf pd pm =
+unfolding snapshot_of
+snapshot_parts s x a b c e0 e1 e2 e3 r f d m q ld lm pa pb pc px pr pf pd pm =
     let em : milestones_of (part 61 6 (d ++ m)) ≡ milestones_shown s = ap milestones_of (last_part 61 6 d m ld lm) ∙ pm in
-    λ i. record {
+    let ex : estimate_of (e0 ∷ e1 ∷ e2 ∷ e3 ∷ []) ≡ s.estimate = ap estimate_of (sym q) ∙ px in
+    ap (λ (e : List ℕ). snapshot_of ((a ∷ b ∷ c ∷ []) ++ e ++ (r ∷ f ∷ []) ++ d ++ m)) q
+    ∙ (λ i. record {
       state = pa i;
       phase = pb i;
       stage = pc i;
-      estimate = px i;
+      estimate = ex i;
       withhold_reason = pr i;
       confidence = pf i;
       diagnostics = (ap diagnostics_of (front_part 0 61 d m (omega arith) ∙ whole 61 d ld) ∙ pd) i;
       first_provisional_lock_elapsed_ms = (em i).first_provisional_ms;
       confirmed_lock_elapsed_ms = (em i).confirmed_ms;
       final_lock_elapsed_ms = (em i).final_ms;
-    }
-snapshot_back s (estimate.At u v o) a b c r f d m ld lm pa pb pc px pr pf pd pm =
-    let em : milestones_of (part 61 6 (d ++ m)) ≡ milestones_shown s = ap milestones_of (last_part 61 6 d m ld lm) ∙ pm in
-    λ i. record {
-      state = pa i;
-      phase = pb i;
-      stage = pc i;
-      estimate = px i;
-      withhold_reason = pr i;
-      confidence = pf i;
-      diagnostics = (ap diagnostics_of (front_part 0 61 d m (omega arith) ∙ whole 61 d ld) ∙ pd) i;
-      first_provisional_lock_elapsed_ms = (em i).first_provisional_ms;
-      confirmed_lock_elapsed_ms = (em i).confirmed_ms;
-      final_lock_elapsed_ms = (em i).final_ms;
-    }
+    })
+
+pub snapshot_back : (s : Snapshot) (x : Option Estimate) (a b c r f : ℕ) (d m : List ℕ) → length d ≡ 61 → length m ≡ 6
+    → state_of a ≡ s.state → phase_of b ≡ s.phase → stage_of c ≡ s.stage → estimate_of (estimate_words x) ≡ s.estimate → reason_of r ≡ s.withhold_reason → float f ≡ s.confidence
+    → diagnostics_of d ≡ s.diagnostics → milestones_of m ≡ milestones_shown s → snapshot_of ((a ∷ b ∷ c ∷ []) ++ estimate_words x ++ (r ∷ f ∷ []) ++ d ++ m) ≡ s
+unfolding estimate_words
+snapshot_back s None a b c r f d m = snapshot_parts s None a b c _ _ _ _ r f d m refl
+snapshot_back s (Some e) a b c r f d m = snapshot_parts s (Some e) a b c _ _ _ _ r f d m refl
 
 -- ---- a state
-pub lock_back : (l : Lock) (p a : List ℕ) (f : ℕ) → length p ≡ 5 → length a ≡ 5 → hypothesis_of p ≡ l.pending → hypothesis_of a ≡ l.accepted → float f ≡ l.last_global_search_ms.0 → lock_of (p ++ a ++ (f ∷ [])) ≡ l
+pub lock_back : (l : Lock) (p a : List ℕ) (f : ℕ) → length p ≡ 5 → length a ≡ 5 → hypothesis_of p ≡ l.pending → hypothesis_of a ≡ l.accepted → recorded_of f ≡ l.last_global_search_ms → lock_of (p ++ a ++ (f ∷ [])) ≡ l
 unfolding lock_of
 lock_back l p a f lp la pp pa pf =
     let n : length (p ++ a) ≡ 10 = both_long p a lp la in
@@ -132,10 +75,10 @@ lock_back l p a f lp la pp pa pf =
     λ i. record {
       pending = (ap hypothesis_of ep ∙ pp) i;
       accepted = (ap hypothesis_of ea ∙ pa) i;
-      last_global_search_ms = record { 0 = (ap (λ (x : ℕ). float x) ef ∙ pf) i };
+      last_global_search_ms = (ap recorded_of ef ∙ pf) i;
     }
 
-pub last_back : (l : Last) (a b c : ℕ) (s : List ℕ) → length s ≡ 76 → endpoint_of a b ≡ l.endpoint_ms → bool_of c ≡ l.has_snapshot → snapshot_of s ≡ l.snapshot → last_of ((a ∷ b ∷ c ∷ []) ++ s) ≡ l
+pub last_back : (l : Last) (a b c : ℕ) (s : List ℕ) → length s ≡ 76 → option_of recorded_of a b ≡ l.endpoint_ms → bool_of c ≡ l.has_snapshot → snapshot_of s ≡ l.snapshot → last_of ((a ∷ b ∷ c ∷ []) ++ s) ≡ l
 unfolding last_of
 last_back l a b c s n pe pb ps = λ i. record { endpoint_ms = pe i; has_snapshot = pb i; snapshot = (ap snapshot_of (whole 76 s n) ∙ ps) i }
 

@@ -5,17 +5,12 @@ ghost use Rattle.engine_layout.specs.Layout.{diagnostics_of, diagnostics_with, m
 ghost use Rattle.engine_layout.specs.Written.{diagnostics_numbers, diagnostics_words, milestones_words, placed, shown_words, spectral_words};
 
 use engine_layout::candidates::{candidates_of, put_candidates};
-use engine_layout::options::{
-    estimate_of, estimate_words, maybe_of, maybe_tag, maybe_word, milestone_of, milestone_tag,
-    milestone_word,
-};
+use engine_layout::options::{estimate_of, estimate_words, option_of, tag, word_or_zero};
 use engine_layout::rows::put;
-use engine_layout::values::{bool_of, bool_word, float_word, word_float};
-use engine_layout::variants::{
-    phase_of, phase_word, reason_of, reason_word, stage_of, stage_word, state_of, state_word,
-};
+use engine_layout::word::Word;
 use engine_spec::types::{
-    CandidateDiagnostics, Diagnostics, Milestones, Snapshot, SpectralDiagnostics,
+    CandidateDiagnostics, Diagnostics, LockPhase, Milestones, Snapshot, SpectralDiagnostics, Stage,
+    State,
 };
 use matcher_spec::limits::CANDIDATES_MOST;
 
@@ -29,8 +24,7 @@ pub fn write_snapshot(words: &mut [u64], snapshot: Snapshot)
     ensures words_after { snapshot_in words.new ≡ snapshot }
     ensures tail { drop 77 words.new ≡ drop 77 words.old }
 {
-    let first = [LAYOUT];
-    put(words, 0, &first);
+    put(words, 0, &[LAYOUT]);
     put_snapshot(words, 1, snapshot);
 }
 
@@ -46,92 +40,73 @@ pub fn put_snapshot(words: &mut [u64], at: usize, s: Snapshot)
     ensures words_after { words.new ≡ placed at (shown_words s) words.old }
     ensures back { snapshot_of (shown_words s) ≡ s }
 {
-    let state = s.state;
-    let phase = s.phase;
-    let stage = s.stage;
-    let kinds = [state_word(state), phase_word(phase), stage_word(stage)];
+    let kinds = [s.state.to_word(), s.phase.to_word(), s.stage.to_word()];
     put(words, at, &kinds);
-    let estimate = s.estimate;
-    let place = estimate_words(estimate);
-    put(words, at + 3, &place);
-    let reason = s.withhold_reason;
-    let support = [reason_word(reason), float_word(s.confidence)];
-    put(words, at + 7, &support);
-    let diagnostics = s.diagnostics;
-    put_diagnostics(words, at + 9, diagnostics);
-    let readings = shown_milestones_words(s);
-    put(words, at + 70, &readings);
+    put(words, at + 3, &estimate_words(s.estimate));
+    put(
+        words,
+        at + 7,
+        &[s.withhold_reason.to_word(), s.confidence.to_word()],
+    );
+    put_diagnostics(words, at + 9, s.diagnostics);
+    put(words, at + 70, &milestones_words(milestones_shown(s)));
 }
 
+#[tactic(auto, unfolding(engine_layout::specs::Layout::snapshot_of))]
 pub fn snapshot_of(words: &[u64]) -> Snapshot
     requires { length words.now ≡ 76 }
     ensures { result ≡ snapshot_of words.now }
 {
-    let state = state_of(words[0]);
-    let phase = phase_of(words[1]);
-    let stage = stage_of(words[2]);
-    let estimate = estimate_of(&words[3..7]);
-    let withhold_reason = reason_of(words[7]);
-    let confidence = word_float(words[8]);
-    let diagnostics = diagnostics_of(&words[9..70]);
     let milestones = milestones_of(&words[70..76]);
-    let first = milestones.first_provisional_ms;
-    let confirmed = milestones.confirmed_ms;
-    let last = milestones.final_ms;
     Snapshot {
-        state,
-        phase,
-        stage,
-        estimate,
-        withhold_reason,
-        confidence,
-        diagnostics,
-        first_provisional_lock_elapsed_ms: first,
-        confirmed_lock_elapsed_ms: confirmed,
-        final_lock_elapsed_ms: last,
+        state: State::from_word(words[0]),
+        phase: LockPhase::from_word(words[1]),
+        stage: Stage::from_word(words[2]),
+        estimate: estimate_of(&words[3..7]),
+        withhold_reason: Word::from_word(words[7]),
+        confidence: f64::from_word(words[8]),
+        diagnostics: diagnostics_of(&words[9..70]),
+        first_provisional_lock_elapsed_ms: milestones.first_provisional_ms,
+        confirmed_lock_elapsed_ms: milestones.confirmed_ms,
+        final_lock_elapsed_ms: milestones.final_ms,
     }
 }
 
-// As an engine's three are written.
-fn shown_milestones_words(s: Snapshot) -> [u64; 6]
-    ensures value { result ≡ milestones_words (milestones_shown s) }
-    ensures back { milestones_of result ≡ milestones_shown s }
+// The milestones that a snapshot shows, as an engine holds them.
+fn milestones_shown(s: Snapshot) -> Milestones
+    ensures { result ≡ milestones_shown s }
 {
-    let first_provisional_ms = s.first_provisional_lock_elapsed_ms;
-    let confirmed_ms = s.confirmed_lock_elapsed_ms;
-    let final_ms = s.final_lock_elapsed_ms;
-    milestones_words(Milestones {
-        first_provisional_ms,
-        confirmed_ms,
-        final_ms,
-    })
+    Milestones {
+        first_provisional_ms: s.first_provisional_lock_elapsed_ms,
+        confirmed_ms: s.confirmed_lock_elapsed_ms,
+        final_ms: s.final_lock_elapsed_ms,
+    }
 }
 
+#[tactic(auto, unfolding(engine_layout::specs::Layout::milestones_of, engine_layout::specs::Written::milestones_words))]
 pub fn milestones_words(m: Milestones) -> [u64; 6]
     ensures value { result ≡ milestones_words m }
     ensures back { milestones_of result ≡ m }
 {
-    let first = m.first_provisional_ms;
-    let confirmed = m.confirmed_ms;
-    let last = m.final_ms;
     [
-        milestone_tag(first),
-        milestone_word(first),
-        milestone_tag(confirmed),
-        milestone_word(confirmed),
-        milestone_tag(last),
-        milestone_word(last),
+        tag(m.first_provisional_ms),
+        word_or_zero(m.first_provisional_ms),
+        tag(m.confirmed_ms),
+        word_or_zero(m.confirmed_ms),
+        tag(m.final_ms),
+        word_or_zero(m.final_ms),
     ]
 }
 
+#[tactic(auto, unfolding(engine_layout::specs::Layout::milestones_of))]
 pub fn milestones_of(words: &[u64]) -> Milestones
     requires { length words.now ≡ 6 }
     ensures { result ≡ milestones_of words.now }
 {
     Milestones {
-        first_provisional_ms: milestone_of(words[0], words[1]),
-        confirmed_ms: milestone_of(words[2], words[3]),
-        final_ms: milestone_of(words[4], words[5]),
+        first_provisional_ms: option_of(words[0], words[1]),
+        confirmed_ms: option_of(words[2], words[3]),
+        final_ms: option_of(words[4], words[5]),
     }
 }
 
@@ -140,15 +115,12 @@ fn put_diagnostics(words: &mut [u64], at: usize, d: Diagnostics)
     ensures words_after { words.new ≡ placed at (diagnostics_words d) words.old }
     ensures back { diagnostics_of (diagnostics_words d) ≡ d }
 {
-    let numbers = diagnostics_words(d);
-    put(words, at, &numbers);
-    let candidates = d.candidates;
-    put_candidates(words, at + 12, candidates);
-    let spectral = d.spectral;
-    let row = spectral_words(spectral);
-    put(words, at + 52, &row);
+    put(words, at, &diagnostics_words(d));
+    put_candidates(words, at + 12, d.candidates);
+    put(words, at + 52, &spectral_words(d.spectral));
 }
 
+#[tactic(auto, unfolding(engine_layout::specs::Layout::diagnostics_of))]
 fn diagnostics_of(words: &[u64]) -> Diagnostics
     requires { length words.now ≡ 61 }
     ensures { result ≡ diagnostics_of words.now }
@@ -159,28 +131,28 @@ fn diagnostics_of(words: &[u64]) -> Diagnostics
 }
 
 // All but the candidates and what the spectral search found.
+#[tactic(auto, unfolding(engine_layout::specs::Layout::diagnostics_with, engine_layout::specs::Written::diagnostics_numbers))]
 fn diagnostics_words(d: Diagnostics) -> [u64; 12]
     ensures value { result ≡ diagnostics_numbers d }
     ensures back { diagnostics_with result d.candidates d.spectral ≡ d }
 {
-    let stability = d.offset_stability_ms;
-    let innovation = d.track_innovation_ms;
     [
-        float_word(d.query_duration_ms),
-        float_word(d.active_frame_fraction),
-        bool_word(d.coarse_ambiguous),
-        float_word(d.dense_margin),
-        maybe_tag(stability),
-        maybe_word(stability),
-        maybe_tag(innovation),
-        maybe_word(innovation),
-        d.track_count as u64,
-        bool_word(d.offset_tracker_confirmed),
-        bool_word(d.offset_tracker_stable),
-        d.candidate_count as u64,
+        d.query_duration_ms.to_word(),
+        d.active_frame_fraction.to_word(),
+        d.coarse_ambiguous.to_word(),
+        d.dense_margin.to_word(),
+        tag(d.offset_stability_ms),
+        word_or_zero(d.offset_stability_ms),
+        tag(d.track_innovation_ms),
+        word_or_zero(d.track_innovation_ms),
+        d.track_count.to_word(),
+        d.offset_tracker_confirmed.to_word(),
+        d.offset_tracker_stable.to_word(),
+        d.candidate_count.to_word(),
     ]
 }
 
+#[tactic(auto, unfolding(engine_layout::specs::Layout::diagnostics_with))]
 fn diagnostics_with(
     words: &[u64],
     candidates: [CandidateDiagnostics; CANDIDATES_MOST],
@@ -190,51 +162,52 @@ fn diagnostics_with(
     ensures { result ≡ diagnostics_with words.now candidates spectral }
 {
     Diagnostics {
-        query_duration_ms: word_float(words[0]),
-        active_frame_fraction: word_float(words[1]),
-        coarse_ambiguous: bool_of(words[2]),
-        dense_margin: word_float(words[3]),
-        offset_stability_ms: maybe_of(words[4], words[5]),
-        track_innovation_ms: maybe_of(words[6], words[7]),
-        track_count: words[8] as usize,
-        offset_tracker_confirmed: bool_of(words[9]),
-        offset_tracker_stable: bool_of(words[10]),
-        candidate_count: words[11] as usize,
+        query_duration_ms: f64::from_word(words[0]),
+        active_frame_fraction: f64::from_word(words[1]),
+        coarse_ambiguous: bool::from_word(words[2]),
+        dense_margin: f64::from_word(words[3]),
+        offset_stability_ms: option_of(words[4], words[5]),
+        track_innovation_ms: option_of(words[6], words[7]),
+        track_count: usize::from_word(words[8]),
+        offset_tracker_confirmed: bool::from_word(words[9]),
+        offset_tracker_stable: bool::from_word(words[10]),
+        candidate_count: usize::from_word(words[11]),
         candidates,
         spectral,
     }
 }
 
+#[tactic(auto, unfolding(engine_layout::specs::Layout::spectral_of, engine_layout::specs::Written::spectral_words))]
 fn spectral_words(s: SpectralDiagnostics) -> [u64; 9]
     ensures value { result ≡ spectral_words s }
     ensures back { spectral_of result ≡ s }
 {
-    let margin = s.competing_peak_margin;
     [
-        bool_word(s.global_search),
-        float_word(s.correlation),
-        maybe_tag(margin),
-        maybe_word(margin),
-        float_word(s.first_half_correlation),
-        float_word(s.second_half_correlation),
-        float_word(s.recent_correlation),
-        float_word(s.fresh_evidence_ms),
-        float_word(s.coast_ms),
+        s.global_search.to_word(),
+        s.correlation.to_word(),
+        tag(s.competing_peak_margin),
+        word_or_zero(s.competing_peak_margin),
+        s.first_half_correlation.to_word(),
+        s.second_half_correlation.to_word(),
+        s.recent_correlation.to_word(),
+        s.fresh_evidence_ms.to_word(),
+        s.coast_ms.to_word(),
     ]
 }
 
+#[tactic(auto, unfolding(engine_layout::specs::Layout::spectral_of))]
 fn spectral_of(words: &[u64]) -> SpectralDiagnostics
     requires { length words.now ≡ 9 }
     ensures { result ≡ spectral_of words.now }
 {
     SpectralDiagnostics {
-        global_search: bool_of(words[0]),
-        correlation: word_float(words[1]),
-        competing_peak_margin: maybe_of(words[2], words[3]),
-        first_half_correlation: word_float(words[4]),
-        second_half_correlation: word_float(words[5]),
-        recent_correlation: word_float(words[6]),
-        fresh_evidence_ms: word_float(words[7]),
-        coast_ms: word_float(words[8]),
+        global_search: bool::from_word(words[0]),
+        correlation: f64::from_word(words[1]),
+        competing_peak_margin: option_of(words[2], words[3]),
+        first_half_correlation: f64::from_word(words[4]),
+        second_half_correlation: f64::from_word(words[5]),
+        recent_correlation: f64::from_word(words[6]),
+        fresh_evidence_ms: f64::from_word(words[7]),
+        coast_ms: f64::from_word(words[8]),
     }
 }

@@ -5,11 +5,9 @@ ghost use Rattle.engine_layout.specs.Layout.{configuration_of, engine_of, last_o
 ghost use Rattle.engine_layout.specs.Written.{ReadsBack, configuration_words, engine_words, last_words, lock_words, placed, settings_words, state_as_words};
 
 use crate::snapshots::{LAYOUT, milestones_of, milestones_words, put_snapshot, snapshot_of};
-use engine_layout::options::{
-    endpoint_of, endpoint_tag, endpoint_word, hypothesis_of, hypothesis_words,
-};
+use engine_layout::options::{hypothesis_of, hypothesis_words, option_of, tag, word_or_zero};
 use engine_layout::rows::put;
-use engine_layout::values::{bool_of, bool_word, float_word, word_float};
+use engine_layout::word::Word;
 use engine_spec::types::{Configuration, Engine, Last, Lock, RecordedMs, ReferenceMs, Settings};
 
 // How many words a state takes, the layout number with them.
@@ -22,12 +20,12 @@ pub fn write_state(words: &mut [u64], engine: Engine)
     ensures words { words.new ≡ placed 0 (state_as_words engine) words.old }
     ensures back { ReadsBack engine }
 {
-    let first = [LAYOUT];
-    put(words, 0, &first);
+    put(words, 0, &[LAYOUT]);
     put_engine(words, engine);
 }
 
 // Words of another layout hold no engine.
+#[tactic(auto, unfolding(engine_layout::specs::Layout::state_in))]
 pub fn read_state(words: &[u64]) -> Engine
     requires { 106 ≤ length words.now }
     ensures { result ≡ state_in words.now }
@@ -53,89 +51,78 @@ fn put_engine(words: &mut [u64], e: Engine)
     ensures words_after { words.new ≡ placed 1 (engine_words e) words.old }
     ensures back { engine_of (engine_words e) ≡ e }
 {
-    let configuration = e.configuration;
-    let demands = configuration_words(configuration);
-    put(words, 1, &demands);
-    let settings = e.settings;
-    let fixed = settings_words(settings);
-    put(words, 6, &fixed);
-    let lock = e.lock;
-    put_lock(words, 10, lock);
-    let milestones = e.milestones;
-    let readings = milestones_words(milestones);
-    put(words, 21, &readings);
-    let last = e.last;
-    put_last(words, 27, last);
+    put(words, 1, &configuration_words(e.configuration));
+    put(words, 6, &settings_words(e.settings));
+    put_lock(words, 10, e.lock);
+    put(words, 21, &milestones_words(e.milestones));
+    put_last(words, 27, e.last);
 }
 
+#[tactic(auto, unfolding(engine_layout::specs::Layout::engine_of))]
 fn engine_of(words: &[u64]) -> Engine
     requires { length words.now ≡ 105 }
     ensures { result ≡ engine_of words.now }
 {
-    let configuration = configuration_of(&words[0..5]);
-    let settings = settings_of(&words[5..9]);
-    let lock = lock_of(&words[9..20]);
-    let milestones = milestones_of(&words[20..26]);
-    let last = last_of(&words[26..105]);
     Engine {
-        configuration,
-        settings,
-        lock,
-        milestones,
-        last,
+        configuration: configuration_of(&words[0..5]),
+        settings: settings_of(&words[5..9]),
+        lock: lock_of(&words[9..20]),
+        milestones: milestones_of(&words[20..26]),
+        last: last_of(&words[26..105]),
     }
 }
 
+#[tactic(auto, unfolding(engine_layout::specs::Layout::configuration_of, engine_layout::specs::Written::configuration_words))]
 fn configuration_words(c: Configuration) -> [u64; 5]
     ensures value { result ≡ configuration_words c }
     ensures back { configuration_of result ≡ c }
 {
     [
-        float_word(c.minimum_readiness_duration_ms),
-        float_word(c.tracking_query_duration_ms),
-        float_word(c.minimum_active_frame_energy_dbfs),
-        float_word(c.minimum_average_energy_dbfs),
-        float_word(c.minimum_active_frame_fraction),
+        c.minimum_readiness_duration_ms.to_word(),
+        c.tracking_query_duration_ms.to_word(),
+        c.minimum_active_frame_energy_dbfs.to_word(),
+        c.minimum_average_energy_dbfs.to_word(),
+        c.minimum_active_frame_fraction.to_word(),
     ]
 }
 
+#[tactic(auto, unfolding(engine_layout::specs::Layout::configuration_of))]
 fn configuration_of(words: &[u64]) -> Configuration
     requires { length words.now ≡ 5 }
     ensures { result ≡ configuration_of words.now }
 {
     Configuration {
-        minimum_readiness_duration_ms: word_float(words[0]),
-        tracking_query_duration_ms: word_float(words[1]),
-        minimum_active_frame_energy_dbfs: word_float(words[2]),
-        minimum_average_energy_dbfs: word_float(words[3]),
-        minimum_active_frame_fraction: word_float(words[4]),
+        minimum_readiness_duration_ms: f64::from_word(words[0]),
+        tracking_query_duration_ms: f64::from_word(words[1]),
+        minimum_active_frame_energy_dbfs: f64::from_word(words[2]),
+        minimum_average_energy_dbfs: f64::from_word(words[3]),
+        minimum_active_frame_fraction: f64::from_word(words[4]),
     }
 }
 
+#[tactic(auto, unfolding(engine_layout::specs::Layout::settings_of, engine_layout::specs::Written::settings_words))]
 fn settings_words(s: Settings) -> [u64; 4]
     ensures value { result ≡ settings_words s }
     ensures back { settings_of result ≡ s }
 {
     [
-        float_word(s.hop_ms),
-        s.reference_frames as u64,
-        s.reference_bands as u64,
-        float_word(s.reference_start_ms.0),
+        s.hop_ms.to_word(),
+        s.reference_frames.to_word(),
+        s.reference_bands.to_word(),
+        s.reference_start_ms.to_word(),
     ]
 }
 
-// How many counts a u16 holds.
-const COUNTS: u64 = 0x1_0000;
-
+#[tactic(auto, unfolding(engine_layout::specs::Layout::settings_of))]
 fn settings_of(words: &[u64]) -> Settings
     requires { length words.now ≡ 4 }
     ensures { result ≡ settings_of words.now }
 {
     Settings {
-        hop_ms: word_float(words[0]),
-        reference_frames: (words[1] % COUNTS) as u16,
-        reference_bands: (words[2] % COUNTS) as u16,
-        reference_start_ms: ReferenceMs(word_float(words[3])),
+        hop_ms: f64::from_word(words[0]),
+        reference_frames: u16::from_word(words[1]),
+        reference_bands: u16::from_word(words[2]),
+        reference_start_ms: ReferenceMs::from_word(words[3]),
     }
 }
 
@@ -144,26 +131,20 @@ fn put_lock(words: &mut [u64], at: usize, l: Lock)
     ensures words_after { words.new ≡ placed at (lock_words l) words.old }
     ensures back { lock_of (lock_words l) ≡ l }
 {
-    let pending = l.pending;
-    let first = hypothesis_words(pending);
-    put(words, at, &first);
-    let accepted = l.accepted;
-    let second = hypothesis_words(accepted);
-    put(words, at + 5, &second);
-    let searched = [float_word(l.last_global_search_ms.0)];
-    put(words, at + 10, &searched);
+    put(words, at, &hypothesis_words(l.pending));
+    put(words, at + 5, &hypothesis_words(l.accepted));
+    put(words, at + 10, &[l.last_global_search_ms.to_word()]);
 }
 
+#[tactic(auto, unfolding(engine_layout::specs::Layout::lock_of))]
 fn lock_of(words: &[u64]) -> Lock
     requires { length words.now ≡ 11 }
     ensures { result ≡ lock_of words.now }
 {
-    let pending = hypothesis_of(&words[0..5]);
-    let accepted = hypothesis_of(&words[5..10]);
     Lock {
-        pending,
-        accepted,
-        last_global_search_ms: RecordedMs(word_float(words[10])),
+        pending: hypothesis_of(&words[0..5]),
+        accepted: hypothesis_of(&words[5..10]),
+        last_global_search_ms: RecordedMs::from_word(words[10]),
     }
 }
 
@@ -172,27 +153,23 @@ fn put_last(words: &mut [u64], at: usize, l: Last)
     ensures words_after { words.new ≡ placed at (last_words l) words.old }
     ensures back { last_of (last_words l) ≡ l }
 {
-    let endpoint = l.endpoint_ms;
     let head = [
-        endpoint_tag(endpoint),
-        endpoint_word(endpoint),
-        bool_word(l.has_snapshot),
+        tag(l.endpoint_ms),
+        word_or_zero(l.endpoint_ms),
+        l.has_snapshot.to_word(),
     ];
     put(words, at, &head);
-    let snapshot = l.snapshot;
-    put_snapshot(words, at + 3, snapshot);
+    put_snapshot(words, at + 3, l.snapshot);
 }
 
+#[tactic(auto, unfolding(engine_layout::specs::Layout::last_of))]
 fn last_of(words: &[u64]) -> Last
     requires { length words.now ≡ 79 }
     ensures { result ≡ last_of words.now }
 {
-    let endpoint_ms = endpoint_of(words[0], words[1]);
-    let has_snapshot = bool_of(words[2]);
-    let snapshot = snapshot_of(&words[3..79]);
     Last {
-        endpoint_ms,
-        has_snapshot,
-        snapshot,
+        endpoint_ms: option_of(words[0], words[1]),
+        has_snapshot: bool::from_word(words[2]),
+        snapshot: snapshot_of(&words[3..79]),
     }
 }

@@ -1,8 +1,4 @@
-use mathlib.Core.Path.{◌≡◌, sym, ap, ◌∙◌}
-use native.Mathlib.Numerals.{add-one}
-use lib.ListN.{length, get_or}
-use native.Mathlib.Omega.{arith}
-use borrow.Author.Rules.{rules}
+use Rattle.std.proofs.Common.{rules, ◌≡◌, sym, ap, ◌∙◌, length, get_or, add-one, arith}
 use Rattle.engine_spec.specs.declared.types.CandidateDiagnostics.{CandidateDiagnostics}
 use Rattle.engine_layout.specs.Layout.{candidate_of}
 use Rattle.engine_layout.specs.Written.{no_candidate, candidates_to, candidate_words}
@@ -12,7 +8,7 @@ use Rattle.engine_layout.proofs.candidates.put_candidates.Goals as goal
 
 pub loop-i-init : goal.loop-i-init
 unfolding candidates_to BackTo
-loop-i-init c = (search rules, search rules, none_laid _ _, tt)
+loop-i-init c = (none_laid _ _, tt)
 
 pub loop-i-preserved : goal.loop-i-preserved
 unfolding BackTo
@@ -23,10 +19,8 @@ loop-i-preserved c =
     let row = c.candidate_words-row in
     let x : CandidateDiagnostics = get_or a.candidates l.i no_candidate in
     let back : candidate_of (candidate_words x) ≡ x = ap candidate_of (sym row.ensures.value) ∙ row.ensures.back in (
-      omega arith,
-      p.auto.words ∙ l.invariant.1,
-      rw add-one (row_more a.candidates a.at l.i a.words.now l.words p.new.words row.result l.invariant.2 (omega arith) (search rules) row.ensures.value p.ensures),
-      rw add-one (l.invariant.3, back),
+      rw add-one (row_more a.candidates a.at l.i a.words.now l.words p.new.words row.result l.invariant.0 (omega arith) (search rules) row.ensures.value p.ensures),
+      rw add-one (l.invariant.1, back),
     )
 
 pub returns : goal.returns
@@ -35,4 +29,4 @@ returns c =
     let a = c.args in
     let e : l.i ≡ 8 = omega arith in
     let h : length a.candidates ≡ 8 = search rules in
-    record { words_after = (rw e at l.invariant.2).there; back = all_back a.candidates h (rw e at l.invariant.3) }
+    record { words_after = (rw e at l.invariant.0).there; back = all_back a.candidates h (rw e at l.invariant.1) }
