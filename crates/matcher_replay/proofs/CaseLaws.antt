@@ -21,25 +21,25 @@ limits : (c : Case) → is_small c ≡ true → Limits c
 unfolding is_small
 limits c h =
     let a = both _ _ h in
-    let b = both _ _ a.1 in
-    let d = both _ _ b.1 in
-    let e = both _ _ d.1 in
-    let f = both _ _ e.1 in
-    let g = both _ _ f.1 in
-    let i = both _ _ g.1 in
-    let j = both _ _ i.1 in
-    let k = both _ _ j.1 in
+    let b = both _ _ a.0 in
+    let d = both _ _ b.0 in
+    let e = both _ _ d.0 in
+    let f = both _ _ e.0 in
+    let g = both _ _ f.0 in
+    let i = both _ _ g.0 in
+    let j = both _ _ i.0 in
+    let k = both _ _ j.0 in
     record {
-      seed = ltb-true _ _ a.0;
-      wide = b.0;
-      period = ltb-true _ _ d.0;
-      some = ltb-true _ _ e.0;
-      bands = leb-true _ _ f.0;
-      long = ltb-true _ _ g.0;
-      frames = leb-true _ _ i.0;
-      heard = ltb-true _ _ j.0;
-      window = leb-true _ _ k.0;
-      from = leb-true _ _ k.1;
+      seed = ltb-true _ _ k.0;
+      wide = k.1;
+      period = ltb-true _ _ j.1;
+      some = ltb-true _ _ i.1;
+      bands = leb-true _ _ g.1;
+      long = ltb-true _ _ f.1;
+      frames = leb-true _ _ e.1;
+      heard = ltb-true _ _ d.1;
+      window = leb-true _ _ b.1;
+      from = leb-true _ _ a.1;
     }
 
 -- What b bands of n values need: b * n values, and one energy more each.

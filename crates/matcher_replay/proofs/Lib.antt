@@ -1,4 +1,3 @@
 pub mod AnswerLaws
 pub mod CaseLaws
-pub mod DigestLaws
 pub mod SoundLaws

@@ -5,7 +5,8 @@ use Rattle.numbers_spec.specs.Arithmetic.{◌⊕◌, ◌⊗◌, real}
 use Rattle.numbers_spec.specs.Rows.{tabulate}
 use Rattle.matcher_bands.proofs.CentringLaws.{tabulate_part}
 use Rattle.numbers_spec.proofs.RowLaws.{tabulate_ext}
-use Rattle.matcher_replay.specs.Sounds.{heard_at, reference_values, sound_at, times_from, window_values}
+use Rattle.matcher_replay.specs.Sounds.{heard_at, reference_values, sound_at, window_values}
+use Rattle.replays.specs.Sounds.{times_from}
 
 -- an element's band is no further than the element
 pub band_of_lem : (i n : ℕ) {m : ℕ} → i < m → i / n < m

@@ -1,5 +1,5 @@
 -- What the matcher answers to a case, and whether a line says so. Definitions only.
-use Rattle.std.specs.Prelude.{ℕ, zero, suc, ◌+◌, ◌-◌, ◌*◌, ◌/◌, Bool, false, cond, ◌&&◌, List, length, take, drop, replicate, ◌==◌, from_bits, nat_lt, Float}
+use Rattle.std.specs.Prelude.{ℕ, ◌*◌, Bool, false, cond, ◌&&◌, List, replicate, ◌==◌, from_bits, Float}
 use Rattle.std.specs.Float.{binary64}
 use Rattle.numbers_spec.specs.Arithmetic.{◌⊕◌, ◌⊖◌, ◌⊗◌, zero⁺, real}
 use Rattle.matcher_spec.specs.Candidates.{result_of}
@@ -10,15 +10,17 @@ use Rattle.matcher_spec.specs.Features.{features}
 use Rattle.matcher_spec.specs.declared.types.Reference.{Reference}
 use Rattle.hexadecimal.specs.Hexadecimal.{spaced, word_at}
 use Rattle.matcher_replay.specs.Cases.{case_of, coarse_room, coarse_energy_room, fine_room, fine_energy_room, is_small}
-use Rattle.matcher_replay.specs.Digests.{with_all, with_candidates}
-use Rattle.matcher_replay.specs.Sounds.{reference_values, times_from, window_values}
+use Rattle.matcher_replay.specs.Digests.{with_candidates, with_floats}
+use Rattle.matcher_replay.specs.Sounds.{reference_values, window_values}
+use Rattle.replays.specs.Lines as lists
+use Rattle.replays.specs.Sounds.{times_from}
 use Rattle.matcher_replay.specs.declared.answers.Answers.{Answers}
 use Rattle.matcher_replay.specs.declared.case.Case.{Case}
 
 -- ---- the searches of an index
 -- All of the index, as one word.
 unfoldable pub index_digest : List Float → List Float → List Float → List Float → ℕ
-index_digest fine coarse fine_energy coarse_energy = with_all (with_all (with_all (with_all 0 fine) coarse) fine_energy) coarse_energy
+index_digest fine coarse fine_energy coarse_energy = with_floats (with_floats (with_floats (with_floats 0 fine) coarse) fine_energy) coarse_energy
 
 -- 5,000: the window's first time
 abbrev pub begin : Float
@@ -88,11 +90,12 @@ module _ (c : Case) where
 -- ---- a line: its last six words are the answers
 unfoldable pub says_of : List ℕ → Answers → Bool
 says_of line found =
-    (found.filled == word_at 8 line)
-    && (found.index == word_at 9 line
-    && (found.whole_count == word_at 10 line
-    && (found.whole == word_at 11 line
-    && (found.local_count == word_at 12 line && found.local == word_at 13 line))))
+    found.filled == word_at 8 line
+    && found.index == word_at 9 line
+    && found.whole_count == word_at 10 line
+    && found.whole == word_at 11 line
+    && found.local_count == word_at 12 line
+    && found.local == word_at 13 line
 
 -- A case beyond the limits agrees with nothing.
 unfoldable pub agrees_of : List ℕ → Bool
@@ -103,15 +106,10 @@ agrees_of line = cond (is_small (case_of line)) (says_of line (answers_of (case_
 abbrev pub line_bytes : ℕ
 line_bytes = 14 * spaced
 
--- The first line of what is left is whole and agrees.
-unfoldable pub first_agrees : List ℕ → Bool
-first_agrees list = cond (nat_lt (length list) line_bytes) false (agrees_of (take line_bytes list))
-
 -- The number of lines, one that is cut off at the end included.
 abbrev pub lines : List ℕ → ℕ
-lines list = (length list + (line_bytes - 1)) / line_bytes
+lines = lists.lines line_bytes
 
 -- How many of the first n lines do not agree.
-unfoldable pub differing : ℕ → List ℕ → ℕ
-differing zero list = 0
-differing (suc n) list = cond (first_agrees list) 0 1 + differing n (drop line_bytes list)
+abbrev pub differing : ℕ → List ℕ → ℕ
+differing = lists.differing line_bytes agrees_of

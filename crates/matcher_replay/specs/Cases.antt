@@ -46,14 +46,15 @@ work64_room = 3 * (case_bands * (case_window + 1)) + case_frames
 unfoldable pub is_small : Case → Bool
 is_small c =
     nat_lt c.seed seeds_end
-    && (le one c.hop
-    && (nat_lt 0 c.period
-    && (nat_lt 0 c.bands
-    && (nat_le c.bands case_bands
-    && (nat_lt 0 c.frames
-    && (nat_le c.frames case_frames
-    && (nat_lt 0 c.window
-    && (nat_le c.window case_window && nat_le c.from case_frames))))))))
+    && le one c.hop
+    && nat_lt 0 c.period
+    && nat_lt 0 c.bands
+    && nat_le c.bands case_bands
+    && nat_lt 0 c.frames
+    && nat_le c.frames case_frames
+    && nat_lt 0 c.window
+    && nat_le c.window case_window
+    && nat_le c.from case_frames
 
 -- ---- a line's first eight words
 -- The float of a pattern up to plus infinity's, and 0 of any other.

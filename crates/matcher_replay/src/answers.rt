@@ -10,6 +10,8 @@ use matcher::index::fill_index;
 use matcher::local::local_search;
 use matcher::whole::whole_search;
 use matcher_spec::types::Reference;
+use replays::digest::with_all;
+use replays::sound::fill_times;
 
 // What a case needs of a reference, its index, a window, and of buffers to work in.
 const FINE: usize = CASE_BANDS * CASE_FRAMES;
@@ -42,16 +44,17 @@ pub struct Answers {
 }
 
 // Whether the line says these answers.
+#[tactic(auto, unfolding(crate::specs::Agreement::says_of))]
 pub fn says(line: &[u8], found: Answers) -> bool
     requires { length line.now ≡ line_bytes }
     ensures { result ≡ says_of line.now found }
 {
-    (found.filled == word_at(line, 8))
-        & ((found.index == word_at(line, 9))
-            & ((found.whole_count == word_at(line, 10))
-                & ((found.whole == word_at(line, 11))
-                    & ((found.local_count == word_at(line, 12))
-                        & (found.local == word_at(line, 13))))))
+    found.filled == word_at(line, 8)
+        && found.index == word_at(line, 9)
+        && found.whole_count == word_at(line, 10)
+        && found.whole == word_at(line, 11)
+        && found.local_count == word_at(line, 12)
+        && found.local == word_at(line, 13)
 }
 
 // What the matcher answers. The reference's sound is made for all of an array, and its front lent.
@@ -67,7 +70,7 @@ pub fn answers_to(case: Case) -> Answers
     let mut coarse = [0.0f32; COARSE];
     let mut fine_energy = [0.0f64; FINE_ENERGY];
     let mut coarse_energy = [0.0f64; COARSE_ENERGY];
-    sound::fill_times(&mut times, 0.0, case.hop);
+    fill_times(&mut times, 0.0, case.hop);
     sound::fill_reference(&mut values, case.seed, case.period, frames);
     let filled = fill_index(
         &mut fine,
@@ -107,7 +110,7 @@ fn search_in(
     let mut values = [0.0f32; WINDOW];
     let mut work32 = [0.0f32; WORK32];
     let mut work64 = [0.0f64; WORK64];
-    sound::fill_times(&mut times, BEGIN, case.hop);
+    fill_times(&mut times, BEGIN, case.hop);
     sound::fill_window(&mut values, case.seed, case.period, window, case.from);
     search_within(
         case,
@@ -201,9 +204,10 @@ fn search_within(
 }
 
 // All of the index, as one word.
+#[tactic(auto, unfolding(crate::specs::Agreement::index_digest))]
 fn digest_of_index(fine: &[f32], coarse: &[f32], fine_energy: &[f64], coarse_energy: &[f64]) -> u64
     ensures { result ≡ index_digest fine.now coarse.now fine_energy.now coarse_energy.now }
 {
-    let word = digest::with_all_f32(digest::with_all_f32(0, fine), coarse);
-    digest::with_all(digest::with_all(word, fine_energy), coarse_energy)
+    let word = with_all(with_all(0, fine), coarse);
+    with_all(with_all(word, fine_energy), coarse_energy)
 }

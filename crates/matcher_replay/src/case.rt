@@ -4,6 +4,7 @@ ghost use Rattle.matcher_replay.specs.Agreement.{line_bytes};
 ghost use Rattle.matcher_replay.specs.Cases.{case_of, float_of, is_small};
 
 use hexadecimal::word_at;
+use std::num::f64_from_bits_with_nan;
 
 // The most of a case.
 pub const CASE_BANDS: usize = 4;
@@ -29,46 +30,50 @@ pub struct Case {
     pub reach: f64,
 }
 
-// The case that a line says.
-pub fn case_of(line: &[u8]) -> Case
-    requires { length line.now ≡ line_bytes }
-    ensures { result ≡ case_of line.now }
-{
-    Case {
-        seed: word_at(line, 0),
-        hop: float_of(word_at(line, 1)),
-        period: word_at(line, 2) as usize,
-        bands: word_at(line, 3) as usize,
-        frames: word_at(line, 4) as usize,
-        window: word_at(line, 5) as usize,
-        from: word_at(line, 6) as usize,
-        reach: float_of(word_at(line, 7)),
+impl Case {
+    // The case that a line says.
+    #[tactic(auto, unfolding(crate::specs::Cases::case_of))]
+    pub fn of(line: &[u8]) -> Case
+        requires { length line.now ≡ line_bytes }
+        ensures { result ≡ case_of line.now }
+    {
+        Case {
+            seed: word_at(line, 0),
+            hop: float_of(word_at(line, 1)),
+            period: word_at(line, 2) as usize,
+            bands: word_at(line, 3) as usize,
+            frames: word_at(line, 4) as usize,
+            window: word_at(line, 5) as usize,
+            from: word_at(line, 6) as usize,
+            reach: float_of(word_at(line, 7)),
+        }
+    }
+
+    // Whether the case is within the limits of this program.
+    pub fn is_small(self) -> bool
+        ensures { result ≡ is_small self }
+    {
+        self.seed < SEEDS_END
+            && self.hop >= 1.0
+            && self.period > 0
+            && self.bands > 0
+            && self.bands <= CASE_BANDS
+            && self.frames > 0
+            && self.frames <= CASE_FRAMES
+            && self.window > 0
+            && self.window <= CASE_WINDOW
+            && self.from <= CASE_FRAMES
     }
 }
 
 // The float of a pattern up to plus infinity's, and 0.0 of any other.
+#[tactic(auto, unfolding(crate::specs::Cases::float_of))]
 fn float_of(bits: u64) -> f64
     ensures { result ≡ float_of bits }
 {
     if bits <= 0x7ff0_0000_0000_0000 {
-        f64::from_bits(bits)
+        f64_from_bits_with_nan(bits)
     } else {
         0.0
     }
-}
-
-// Whether the case is within the limits of this program.
-pub fn is_small(case: Case) -> bool
-    ensures { result ≡ is_small case }
-{
-    (case.seed < SEEDS_END)
-        & ((case.hop >= 1.0)
-            & ((case.period > 0)
-                & ((case.bands > 0)
-                    & ((case.bands <= CASE_BANDS)
-                        & ((case.frames > 0)
-                            & ((case.frames <= CASE_FRAMES)
-                                & ((case.window > 0)
-                                    & ((case.window <= CASE_WINDOW)
-                                        & (case.from <= CASE_FRAMES)))))))))
 }

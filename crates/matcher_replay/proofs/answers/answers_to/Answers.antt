@@ -14,7 +14,7 @@ overflow_mul-size c = let s = small _ c.requires in omega arith
 
 pub fill_reference-requires : goal.fill_reference-requires
 fill_reference-requires c =
-    let s = small _ c.requires in record { fact_1 = omega arith; fact_2 = omega arith; fact_3 = omega arith; fact_4 = omega arith }
+    let s = small _ c.requires in record { seeded = omega arith; repeats = omega arith; some = omega arith; room = omega arith }
 
 pub slice_bounds-times-end : goal.slice_bounds-times-end
 slice_bounds-times-end c =

@@ -17,7 +17,7 @@ overflow_mul-size c = let s = small _ c.requires.case_value_1 in omega arith
 
 pub fill_window-requires : goal.fill_window-requires
 fill_window-requires c =
-    let s = small _ c.requires.case_value_1 in record { seed_lt_seeds_end_1 = omega arith; seed_lt_seeds_end_2 = omega arith; seed_lt_seeds_end_3 = omega arith; seed_lt_seeds_end_4 = omega arith; from_le_case_frames_1 = omega arith; from_le_case_frames_2 = omega arith }
+    let s = small _ c.requires.case_value_1 in record { seeded = omega arith; repeats = omega arith; some = omega arith; room = omega arith; inside = omega arith; short = omega arith }
 
 pub slice_bounds-times-end : goal.slice_bounds-times-end
 slice_bounds-times-end c =

@@ -10,13 +10,10 @@ loop-i-init c = filling_none _ _
 pub sound_at-requires : goal.sound_at-requires
 sound_at-requires c =
     let h : c.loop-i.i < fine_room = omega arith in
-    record { fact_1 = omega arith; fact_2 = c.requires.fact_2; fact_3 = band_of_lem c.loop-i.i c.args.n h }
+    record { seeded = omega arith; repeats = c.requires.repeats; banded = band_of_lem c.loop-i.i c.args.n h }
 
 pub loop-i-preserved : goal.loop-i-preserved
 loop-i-preserved c = filling_more c.loop-i.invariant c.sound_at.ensures (omega arith)
-
-pub shape_of-values : goal.shape_of-values
-shape_of-values c = c.loop-i.invariant.size
 
 pub returns : goal.returns
 returns c = filling_all c.loop-i.invariant (omega arith)

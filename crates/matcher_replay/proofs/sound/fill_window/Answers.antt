@@ -8,18 +8,15 @@ pub loop-i-init : goal.loop-i-init
 loop-i-init c = filling_none _ _
 
 pub overflow_add-from : goal.overflow_add-from
-overflow_add-from c = omega (arith, mod-lt c.loop-i.i c.requires.seed_lt_seeds_end_3)
+overflow_add-from c = omega (arith, mod-lt c.loop-i.i c.requires.some)
 
 pub heard_at-requires : goal.heard_at-requires
 heard_at-requires c =
     let h : c.loop-i.i < fine_room = omega arith in
-    record { fact_1 = c.requires.seed_lt_seeds_end_1; fact_2 = c.requires.seed_lt_seeds_end_2; fact_3 = band_of_lem c.loop-i.i c.args.n h }
+    record { seeded = c.requires.seeded; repeats = c.requires.repeats; banded = band_of_lem c.loop-i.i c.args.n h }
 
 pub loop-i-preserved : goal.loop-i-preserved
 loop-i-preserved c = filling_more c.loop-i.invariant c.heard_at.ensures (omega arith)
-
-pub shape_of-values : goal.shape_of-values
-shape_of-values c = c.loop-i.invariant.size
 
 pub returns : goal.returns
 returns c = filling_all c.loop-i.invariant (omega arith)

@@ -1,8 +1,0 @@
--- `matcher_replay::differs_at` meets its contract. Assumes nothing.
-use Rattle.matcher_replay.proofs.differs_at.Goals as goal
-
-pub returns-then-agrees_at : goal.returns-then-agrees_at
-returns-then-agrees_at c = simp (← c.agrees_at.ensures, c.if-agrees_at.true)
-
-pub returns : goal.returns
-returns c = simp (← c.agrees_at.ensures, c.if-agrees_at.false)
