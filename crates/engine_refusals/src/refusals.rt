@@ -1,9 +1,8 @@
 // Refusals and their numbers.
 ghost use Rattle.std.specs.Prelude.{◌≡◌};
-ghost use Rattle.engine_spec.specs.Cases.{is_refused};
 ghost use Rattle.engine_spec.specs.Refusals.{number_of};
 
-use engine_spec::types::{Answer, Refusal};
+use engine_spec::types::Refusal;
 
 // The number of document 01.
 #[tactic(auto, unfolding(engine_spec::specs::Refusals::number_of))]
@@ -28,11 +27,4 @@ pub fn number_of(r: Refusal) -> u32
         Refusal::StoreTooShort => 6,
         Refusal::NothingKept => 15,
     }
-}
-
-#[tactic(auto, unfolding(engine_spec::specs::Cases::is_refused))]
-pub fn is_refused(a: Answer) -> bool
-    ensures { result ≡ is_refused a }
-{
-    matches!(a, Answer::Refused(_))
 }
