@@ -1,2 +1,3 @@
--- What the proofs of rounding, floor and ceiling share.
+-- What the proof of rounding rests on, and that std's floor and ceiling are document 01's.
 pub mod Fractions
+pub mod Same

@@ -1,14 +1,6 @@
--- A finite f64 as whole numbers: what the inner functions of rounding, narrowing and root hand to each other. Definitions only.
-use Rattle.std.specs.Prelude.{◌≡◌, ℕ, ◌+◌, ◌-◌, ◌*◌, ◌^◌, ◌<◌, ◌≤◌, Bool, ◌⊎◌, Float}
+-- A finite f64 as whole numbers: what the inner functions of narrowing and root hand to each other. Definitions only.
+use Rattle.std.specs.Prelude.{◌≡◌, ℕ, ◌+◌, ◌-◌, ◌*◌, ◌^◌, ◌<◌, ◌≤◌, ◌⊎◌}
 use Rattle.std.specs.Int.Count.{count_leading_zeros}
-use Rattle.std.specs.Float.Ieee.Exact.{HasValue}
-
--- x is finite, with the sign `minus`, and is sig * 2 ^ exp units of 2 ^ -1074, the smallest f64. A sig of fewer than 53 digits is a subnormal's: its exp is 0.
-pub record Parted (x : Float) (minus : Bool) (sig exp : ℕ) : Type 0 where
-  pub value : HasValue x minus (sig * 2 ^ exp) (2 ^ 1074)
-  pub sig_lt : sig < 2 ^ 53
-  pub exp_le : exp ≤ 2045
-  pub full : 0 < exp → 2 ^ 52 ≤ sig
 
 -- Counted in units of 2 ^ -149, the smallest f32, the number sig * 2 ^ exp * 2 ^ -1074 has 24 binary digits before the point once r of them are dropped, or fewer and r is 0.
 pub record Dropped (sig exp r : ℕ) : Type 0 where
@@ -21,9 +13,3 @@ pub record Dropped (sig exp r : ℕ) : Type 0 where
 pub record Normalised (sig exp full scale : ℕ) : Type 0 where
   pub full_is : full ≡ sig * 2 ^ (count_leading_zeros 64 sig - 11)
   pub scale_is : scale ≡ exp + 52 - (count_leading_zeros 64 sig - 11)
-
--- c * c in two parts: top * 2 ^ 54 + low.
-pub record Squared (c top low : ℕ) : Type 0 where
-  pub is : top * 2 ^ 54 + low ≡ c * c
-  pub low_lt : low < 2 ^ 55
-  pub top_le : top ≤ 2 ^ 53

@@ -6,6 +6,7 @@ ghost use Rattle.numbers_spec.specs.Exponential.{exp_of, exp_series, ten_to, two
 use crate::constants::{HI, LN_10, LO};
 use crate::parts::LEADING;
 use crate::whole::round;
+use std::num::truncating_f64_to_u64;
 
 // Beyond it, on either side, E is 0 or plus infinity.
 const LIMIT: f64 = 690.0;
@@ -21,10 +22,10 @@ pub fn exp(x: f64) -> f64
         return 0.0;
     }
     if x > LIMIT {
-        return 1.0 / 0.0;
+        return f64::INFINITY;
     }
-    let k: f64 = round(x * LOG2_E);
-    let r: f64 = x - k * HI - k * LO;
+    let k = round(x * LOG2_E);
+    let r = x - k * HI - k * LO;
     exp_series(r) * two_to(k)
 }
 
@@ -39,11 +40,9 @@ pub fn ten_to(y: f64) -> f64
 fn exp_series(r: f64) -> f64
     ensures { result ≡ exp_series 13 r one }
 {
-    let mut p: f64 = 1.0;
-    let mut n: u64 = 13;
-    while n > 0 {
+    let mut p = 1.0;
+    for n in (1..=13u64).rev() {
         p = 1.0 + r * p / (n as f64);
-        n = n - 1;
     }
     p
 }
@@ -52,12 +51,9 @@ fn exp_series(r: f64) -> f64
 fn two_to(k: f64) -> f64
     ensures { result ≡ two_to k }
 {
-    let field: f64 = k + 1023.0;
-    if field >= 1.0 {
-        if field <= 2046.0 {
-            return f64::from_bits(std::num::truncating_f64_to_u64(field) * LEADING);
-        }
-        return 0.0 / 0.0;
+    let field = k + 1023.0;
+    if field >= 1.0 && field <= 2046.0 {
+        return f64::from_bits(truncating_f64_to_u64(field) * LEADING);
     }
-    0.0 / 0.0
+    f64::NAN
 }

@@ -11,17 +11,19 @@ pub fn widen(x: f32) -> f64
 }
 
 // Whether x is neither a NaN nor an infinity.
+#[tactic(auto, using(crate::proofs::float::Same::finite_is))]
 pub fn is_finite(x: f64) -> bool
     ensures { result ≡ finite x }
 {
-    if x < 1.0 / 0.0 { x > -1.0 / 0.0 } else { false }
+    x.is_finite()
 }
 
 // Whether the f32 x is neither a NaN nor an infinity.
+#[tactic(auto, using(crate::proofs::float::Same::finite_is))]
 pub fn is_finite_f32(x: f32) -> bool
     ensures { result ≡ finite x }
 {
-    is_finite(widen(x))
+    x.is_finite()
 }
 
 // The f64 nearest to n.

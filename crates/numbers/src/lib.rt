@@ -10,5 +10,4 @@ pub mod logarithm;
 pub mod narrow;
 mod parts;
 pub mod root;
-mod square;
 pub mod whole;

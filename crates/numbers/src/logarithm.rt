@@ -25,34 +25,34 @@ pub fn ln(v: f64) -> f64
     ensures { result ≡ log_of v }
 {
     if v >= SMALLEST_NORMAL {
-        if v < 1.0 / 0.0 {
+        if v < f64::INFINITY {
             let m = mantissa(v);
             return log_at(halved(m), raised(exponent(v), m));
         }
         return v;
     }
-    0.0 / 0.0
+    f64::NAN
 }
 
 // m of v = m * 2 ^ e. A NaN, whose pattern can't be read, has the digits of 1.5.
 pub fn mantissa(v: f64) -> f64
     ensures { result ≡ mantissa v }
 {
-    f64::from_bits(f64::to_bits(number_or(v, 1.5)) % LEADING + ONE)
+    f64::from_bits(number_or(v, 1.5).to_bits() % LEADING + ONE)
 }
 
 // e of v = m * 2 ^ e. A NaN has the exponent's field of an infinity.
 pub fn exponent(v: f64) -> f64
     ensures { result ≡ exponent v }
 {
-    (f64::to_bits(number_or(v, 1.0 / 0.0)) / LEADING) as f64 - 1023.0
+    (number_or(v, f64::INFINITY).to_bits() / LEADING) as f64 - 1023.0
 }
 
 // v, or z where v is a NaN; without a branch.
 fn number_or(v: f64, z: f64) -> f64
     ensures { result ≡ (if le v (inf false) then v else z) }
 {
-    if v <= 1.0 / 0.0 { v } else { z }
+    if v <= f64::INFINITY { v } else { z }
 }
 
 // m, halved where it is above √2; and the e beside it. Both without a branch: which way an m goes is
@@ -74,7 +74,7 @@ pub fn raised(e: f64, m: f64) -> f64
 pub fn ln_1p(w: f32) -> f32
     ensures { result ≡ log1p_of w }
 {
-    let x: f64 = widen(w);
+    let x = widen(w);
     if x <= SERIES_MOST {
         return narrow(log_twice(x / (2.0 + x)));
     }
@@ -92,7 +92,7 @@ pub fn log10(v: f64) -> f64
 fn log_at(m: f64, e: f64) -> f64
     ensures { result ≡ log_at m e }
 {
-    let t: f64 = log_twice((m - 1.0) / (m + 1.0));
+    let t = log_twice((m - 1.0) / (m + 1.0));
     e * HI + (e * LO + t)
 }
 
@@ -107,10 +107,8 @@ fn log_twice(s: f64) -> f64
 fn log_series(z: f64) -> f64
     ensures { result ≡ log_series 12 z zero⁺ }
 {
-    let mut q: f64 = 0.0;
-    let mut i: u64 = 12;
-    while i > 0 {
-        i = i - 1;
+    let mut q = 0.0;
+    for i in (0..12u64).rev() {
         q = q * z + 1.0 / ((2 * i + 1) as f64);
     }
     q

@@ -9,7 +9,7 @@ ghost use Rattle.numbers.specs.Plain.{Plain, plain};
 ghost use Rattle.numbers_spec.specs.Narrow.{nearest_f32};
 
 use crate::float::{at_least, is_finite};
-use crate::parts::{WHOLE, split};
+use crate::parts::{Parts, WHOLE, split};
 
 // An f64 has 53 digits and an f32 24, so this many are left off.
 const EXCESS: u64 = 53 - 24;
@@ -39,68 +39,52 @@ pub fn narrow(x: f64) -> f32
     ensures { result ≡ nearest_f32 x }
 {
     if is_finite(x) {
-        let p = split(x);
-        return f32::from_bits(narrow_bits(p.minus, p.sig, p.exp) as u32);
+        return f32::from_bits(narrow_bits(split(x)) as u32);
     }
     if x > 0.0 {
-        return 1.0 / 0.0;
+        return f32::INFINITY;
     }
     if x < 0.0 {
-        return -1.0 / 0.0;
+        return f32::NEG_INFINITY;
     }
-    0.0 / 0.0
+    f32::NAN
 }
 
-// The bit pattern of the f32 nearest to ±sig * 2 ^ (exp - 1074). A normal f64 whose f32 is normal
-// too leaves off 29 digits: that case, nearly all, goes first.
-fn narrow_bits(minus: bool, sig: u64, exp: u64) -> u64
-    requires fact_1 { sig < 2 ^ 53 }
-    requires fact_2 { exp ≤ 2045 }
-    requires fact_3 { (0 < exp → 2 ^ 52 ≤ sig) }
-    ensures { result ≡ to_bits binary32 (round binary32 minus (sig * 2 ^ exp) (2 ^ 1074)) }
+// The bit pattern of the f32 nearest to the number of these parts. A normal f64 whose f32 is normal too
+// leaves off 29 digits: that case, nearly all, goes first.
+fn narrow_bits(p: Parts) -> u64
+    ensures { result ≡ to_bits binary32 (round binary32 p.minus (p.sig * 2 ^ p.exp) (2 ^ 1074)) }
 {
-    if exp >= LEAST_NORMAL {
-        if exp <= LAST_NORMAL {
-            return sign_bit(minus) + ((exp - LEAST_NORMAL) * FIELD + nearest(sig, EXCESS));
-        }
+    if p.exp >= LEAST_NORMAL && p.exp <= LAST_NORMAL {
+        return sign_bit(p.minus) + ((p.exp - LEAST_NORMAL) * FIELD + nearest(p.sig, EXCESS));
     }
-    any_bits(minus, sig, exp)
+    any_bits(p)
 }
 
 // The pattern of the nearest f32, for what `narrow_bits` does not take itself: subnormal results,
 // zero and infinity.
-fn any_bits(minus: bool, sig: u64, exp: u64) -> u64
-    requires fact_1 { sig < 2 ^ 53 }
-    requires fact_2 { exp ≤ 2045 }
-    requires fact_3 { (0 < exp → 2 ^ 52 ≤ sig) }
-    ensures { result ≡ to_bits binary32 (round binary32 minus (sig * 2 ^ exp) (2 ^ 1074)) }
+fn any_bits(p: Parts) -> u64
+    ensures { result ≡ to_bits binary32 (round binary32 p.minus (p.sig * 2 ^ p.exp) (2 ^ 1074)) }
 {
-    let drop: u64 = dropped(sig, exp);
-    let sign: u64 = sign_bit(minus);
+    let drop = dropped(p);
+    let sign = sign_bit(p.minus);
     if drop > MOST {
         return sign + INFINITY;
     }
-    let gap: u64 = FINER + drop - exp;
+    let gap = FINER + drop - p.exp;
     if gap > 63 {
         return sign + drop * FIELD;
     }
-    sign + (drop * FIELD + nearest(sig, gap))
+    sign + (drop * FIELD + nearest(p.sig, gap))
 }
 
-// How many binary digits the nearest f32 of sig * 2 ^ (exp - 1074) leaves off, counted in units of
-// 2 ^ -149, the smallest f32. For a subnormal result that is 0.
-fn dropped(sig: u64, exp: u64) -> u64
-    requires fact_1 { sig < 2 ^ 53 }
-    requires fact_2 { exp ≤ 2045 }
-    requires fact_3 { (0 < exp → 2 ^ 52 ≤ sig) }
-    ensures { Dropped sig exp result }
+// How many binary digits the nearest f32 of a number leaves off, counted in units of 2 ^ -149, the
+// smallest f32. For a subnormal result that is 0.
+fn dropped(p: Parts) -> u64
+    ensures { Dropped p.sig p.exp result }
 {
-    let digits: u64 = 64 - (u64::leading_zeros(sig) as u64);
-    if exp + digits > KEPT {
-        exp + digits - KEPT
-    } else {
-        0
-    }
+    let digits = 64 - u64::from(p.sig.leading_zeros());
+    (p.exp + digits).saturating_sub(KEPT)
 }
 
 // sig / 2 ^ shift to the nearest whole number, a tie to the even one, by the sum of `by_sum`: just under
@@ -111,8 +95,8 @@ fn nearest(sig: u64, shift: u64) -> u64
     requires fact_3 { shift < 64 }
     ensures { result ≡ closest sig (2 ^ shift) }
 {
-    let half: u64 = 1u64 << (shift - 1);
-    let odd: u64 = (sig >> shift) % 2;
+    let half = 1u64 << (shift - 1);
+    let odd = (sig >> shift) % 2;
     (sig + (half - 1) + odd) >> shift
 }
 
@@ -133,7 +117,7 @@ const NORMAL_MOST: f64 = 3.4028234663852886e38;
 pub fn is_plain(x: f64) -> bool
     ensures { result ≡ plain x }
 {
-    (x >= NORMAL_LEAST) & (x <= NORMAL_MOST) | (f64::to_bits(at_least(-1.0, x)) == 0)
+    (x >= NORMAL_LEAST) & (x <= NORMAL_MOST) | (at_least(-1.0, x).to_bits() == 0)
 }
 
 // The f32 nearest to a plain number. The sum is taken of the whole pattern, whose exponent counts a
@@ -143,7 +127,7 @@ pub fn narrow_plain(x: f64) -> f32
     ensures { result ≡ nearest_f32 x }
 {
     if x > 0.0 {
-        return f32::from_bits((nearest(f64::to_bits(x), EXCESS) - LEAST_NORMAL * FIELD) as u32);
+        return f32::from_bits((nearest(x.to_bits(), EXCESS) - LEAST_NORMAL * FIELD) as u32);
     }
     0.0
 }

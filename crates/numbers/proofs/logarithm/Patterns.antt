@@ -1,18 +1,18 @@
 -- The patterns that `mantissa` and `exponent` read: a NaN's is 0x7ff8000000000000, with the digits of 1.5 and the field of an infinity. Assumes nothing.
 use Rattle.std.proofs.Common.{◌≡◌, ℕ, ◌+◌, ◌*◌, ◌/◌, ◌%◌, ◌^◌, true, false, cond, not, T, sym, refl, ap, ◌∙◌, subst}
-use lib.Ieee.{Float, nan, inf, fin, binary64, le, lt, div, is_nan, of_bits, of_fields, odd, to_bits}
+use lib.Ieee.{Float, nan, inf, fin, binary64, le, lt, is_nan, of_bits, of_fields, odd, to_bits}
 use lib.Count.{count_trailing_zeros}
 use Rattle.numbers_spec.specs.Logarithm.{mantissa}
 
 abbrev number_or : Float → Float → Float
 number_or v z = cond (le v (inf false)) v z
 
--- 1.5, and an infinity as a quotient
+-- 1.5, and plus infinity
 abbrev pub one_and_half : Float
 one_and_half = of_bits binary64 0x3ff8000000000000
 
 abbrev pub infinite : Float
-infinite = div binary64 (of_bits binary64 0x3ff0000000000000) (of_bits binary64 0)
+infinite = of_bits binary64 0x7ff0000000000000
 
 or_number : (v z : Float) → T (not (is_nan z)) → T (not (is_nan (number_or v z)))
 unfolding le lt is_nan
@@ -26,7 +26,7 @@ unfolding is_nan of_bits of_fields odd count_trailing_zeros
 half_number = tt
 
 infinite_number : T (not (is_nan infinite))
-unfolding is_nan div of_bits of_fields odd count_trailing_zeros
+unfolding is_nan of_bits of_fields odd count_trailing_zeros
 infinite_number = tt
 
 pub half_or_number : (v : Float) {r : Float} → r ≡ number_or v one_and_half → T (not (is_nan r))
@@ -43,7 +43,7 @@ digits_or (inf false) = refl
 digits_or (fin s m e) = refl
 
 field_or : (v : Float) → to_bits binary64 (number_or v infinite) / 2 ^ 52 ≡ to_bits binary64 v / 2 ^ 52
-unfolding le lt div to_bits of_bits of_fields odd count_trailing_zeros
+unfolding le lt to_bits of_bits of_fields odd count_trailing_zeros
 field_or nan = refl
 field_or (inf true) = refl
 field_or (inf false) = refl

@@ -1,5 +1,5 @@
 -- How many digits the nearest f32 drops, and what it keeps. Assumes nothing.
-use Rattle.std.proofs.Common.{◌≡◌, ℕ, zero, suc, ◌+◌, ◌-◌, ◌*◌, ◌^◌, ◌<◌, ◌≤◌, sym, refl, ap, ◌∙◌, subst, inl, inr, zero-le, le_trans, le_of_eq, lt_of_lt_of_le, lt_of_le_of_lt, le_of_lt, mul-le-mul_right, mul_assoc, lt_of_not-le, not-le_of_lt, arith, lit≤, pow_pos, pow_mono, pow-add, shl_lt}
+use Rattle.std.proofs.Common.{◌≡◌, ℕ, zero, suc, ◌+◌, ◌-◌, ◌*◌, ◌^◌, ◌<◌, ◌≤◌, sym, refl, ap, ◌∙◌, subst, inl, inr, ⊎_elim, zero-le, le_trans, le_of_eq, lt_of_lt_of_le, lt_of_le_of_lt, le_of_lt, mul-le-mul_right, mul_assoc, lt_of_not-le, not-le_of_lt, arith, lit≤, pow_pos, pow_mono, pow-add, shl_lt}
 use native.Mathlib.Nat.{pow-succ'}
 use lib.Count.{count_leading_zeros, leading_length}
 use lib.Ieee.Nearest.{closest, closest_same}
@@ -98,11 +98,15 @@ module _ (sig exp : ℕ) (S : sig < 2 ^ 53) (E : exp ≤ 2045) (F : 0 < exp → 
           go : (k : ℕ) → k + m ≤ 949 → 52 < m → k + 29 ≤ 925
           go k x y = omega arith
 
-  pub over_code : 949 < exp + (64 - count_leading_zeros 64 sig) → Dropped sig exp (exp + (64 - count_leading_zeros 64 sig) - 949)
-  over_code h = subst (λ (m : ℕ). Dropped sig exp (exp + m - 949)) (sym digits) (over (subst (λ (m : ℕ). 949 < exp + m) digits h))
+  -- the digits dropped, as the code works them out
+  pub dropped_is : Dropped sig exp (exp + (64 - count_leading_zeros 64 sig) - 949)
+  dropped_is = subst (λ (m : ℕ). Dropped sig exp (exp + m - 949)) (sym digits) (⊎_elim none some (native.Mathlib.Nat.eq-zero-or-pos (exp + M - 949)))
+    where
+      none : exp + M - 949 ≡ 0 → Dropped sig exp (exp + M - 949)
+      none h = subst (Dropped sig exp) (sym h) (under (omega arith))
 
-  pub under_code : exp + (64 - count_leading_zeros 64 sig) ≤ 949 → Dropped sig exp 0
-  under_code h = under (subst (λ (m : ℕ). exp + m ≤ 949) digits h)
+      some : 0 < exp + M - 949 → Dropped sig exp (exp + M - 949)
+      some h = over (omega arith)
 
 -- a significand of 53 digits, and a normal result
 pub normal : (sig exp : ℕ) → sig < 2 ^ 53 → 2 ^ 52 ≤ sig → 896 ≤ exp → exp ≤ 2045 → Dropped sig exp (exp - 896)

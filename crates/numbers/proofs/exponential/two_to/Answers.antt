@@ -2,12 +2,13 @@
 use Rattle.std.proofs.Common.{◌≡◌, ℕ, ◌+◌, ◌-◌, ◌*◌, ◌/◌, ◌^◌, ◌<◌, ◌≤◌, Bool, true, false, cond, ◌&&◌, ◌||◌, T, eqb, ltb, pos, sym, refl, ap, ◌∙◌, subst, true≢false, le_trans, le_of_eq, lt_of_lt_of_le, le-add_right, lt_of_le_of_lt, le_of_lt, div-lt_iff_lt-mul, mul-lt-mul_of_pos_right, mul-pos, one-mul, le-add_left, arith, lit<, lit≤, eqb→eq, ltb→lt, lt→ltb}
 use mathlib.Core.Bool.{false≢true}
 use native.Mathlib.Nat.{min-le_left}
-use lib.Ieee.{Float, nan, inf, fin, binary64, up, down, add, lt, le, of_bits, div, to_unsigned}
+use lib.Ieee.{Float, nan, inf, fin, binary64, up, down, add, lt, le, of_bits, to_unsigned}
 use lib.Ieee.Fits.{down_pos, and_r}
 use Rattle.numbers_spec.specs.Arithmetic.{one}
 use Rattle.numbers_spec.specs.Exponential.{two_to}
 use Rattle.numbers_spec.proofs.Rooted.{no_nan_bits}
 use Rattle.numbers.proofs.exponential.two_to.Goals as goal
+use Rattle.numbers.proofs.exponential.two_to.Goals.{else-field-via-then-field+else-field-2, else-field-via-else-field}
 
 -- a ≤ b, as `le` tests it
 le_nat : (a b : ℕ) → T (ltb a b || (eqb a b && true)) → a ≤ b
@@ -110,14 +111,12 @@ returns-then-field-2 c =
     let k = c.args.k in
     inside _ _ c.truncating_f64_to_u64.result _ c.if-field.true c.if-field-2.true c.truncating_f64_to_u64.ensures ∙ sym (opened k)
 
-pub returns-then-field : goal.returns-then-field
-unfolding of_bits div
-returns-then-field c =
-    let u = add binary64 c.args.k (of_bits binary64 0x408ff80000000000) in
-    outside (le one u) (le u (of_bits binary64 0x409ff80000000000)) (to_unsigned 64 u) (second_no (le one u) (le u (of_bits binary64 0x409ff80000000000)) c.if-field-2.false) ∙ sym (opened c.args.k)
-
 pub returns : goal.returns
-unfolding of_bits div
+unfolding of_bits
 returns c =
     let u = add binary64 c.args.k (of_bits binary64 0x408ff80000000000) in
-    outside (le one u) (le u (of_bits binary64 0x409ff80000000000)) (to_unsigned 64 u) (first_no (le one u) (le u (of_bits binary64 0x409ff80000000000)) c.if-field.false) ∙ sym (opened c.args.k)
+    let l = le one u in
+    let m = le u (of_bits binary64 0x409ff80000000000) in
+    outside l m (to_unsigned 64 u)
+    (elim c.else-field.branch [ else-field-via-then-field+else-field-2 w ↦ second_no l m w.if-field-2.false | else-field-via-else-field w ↦ first_no l m w.if-field.false ])
+    ∙ sym (opened c.args.k)

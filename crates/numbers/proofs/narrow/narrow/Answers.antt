@@ -29,25 +29,25 @@ neither (inf true) h k l = absurd (true≢false l)
 neither (inf false) h k l = absurd (true≢false k)
 neither (fin s m e) h k l = absurd (true≢false h)
 
-pub split-p-requires : goal.split-p-requires
-split-p-requires c = subst T (sym (sym c.is_finite.ensures ∙ c.if-is_finite.true)) tt
+pub split-requires : goal.split-requires
+split-requires c = subst T (sym (sym c.is_finite.ensures ∙ c.if-is_finite.true)) tt
 
 pub overflow_cast-result : goal.overflow_cast-result
 overflow_cast-result c =
-    let p = c.split-p.result in
+    let p = c.split.result in
     omega (arith, fits_32 c.narrow_bits.result (round binary32 p.minus (p.sig * 2 ^ p.exp) (2 ^ 1074)) c.narrow_bits.ensures (round-fits binary32 p.minus (p.sig * 2 ^ p.exp) (2 ^ 1074)))
 
 pub float_from_bits-result : goal.float_from_bits-result
 float_from_bits-result c =
-    let p = c.split-p.result in
+    let p = c.split.result in
     no_nan c.narrow_bits.result p.minus (p.sig * 2 ^ p.exp) (2 ^ 1074) c.narrow_bits.ensures
 
 pub returns-then-is_finite : goal.returns-then-is_finite
 returns-then-is_finite c =
-    let p = c.split-p.result in
+    let p = c.split.result in
     let x = c.args.x in
     back c.narrow_bits.result (round binary32 p.minus (p.sig * 2 ^ p.exp) (2 ^ 1074)) c.narrow_bits.ensures (round-fits binary32 p.minus (p.sig * 2 ^ p.exp) (2 ^ 1074))
-    ∙ by_value x p.minus (p.sig * 2 ^ p.exp) (2 ^ 1074) (pow_pos 1074) c.split-p.ensures.value
+    ∙ by_value x p.minus (p.sig * 2 ^ p.exp) (2 ^ 1074) (pow_pos 1074) c.split.ensures
 
 pub returns-then-x : goal.returns-then-x
 unfolding of_bits div

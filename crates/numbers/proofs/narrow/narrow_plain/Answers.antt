@@ -8,7 +8,7 @@ use Rattle.numbers.specs.Plain.{normal_least}
 use Rattle.numbers_spec.specs.Arithmetic.{zero⁺}
 use Rattle.numbers_spec.specs.Narrow.{nearest_f32}
 use Rattle.numbers_spec.proofs.Order.{le_transitive, not-lt→le}
-use Rattle.numbers_spec.proofs.Value.{finite_no_nan, value_finite}
+use Rattle.numbers_spec.proofs.Value.{finite_no_nan}
 use Rattle.numbers.proofs.narrow.Patterns.{by_value, fits_32, back, no_nan}
 use Rattle.numbers.proofs.narrow.Plain.{Kind, kind, Whole, plus, whole, plain_bits, sum_ge, pattern_lt}
 use Rattle.numbers.proofs.narrow.narrow_plain.Goals as goal
@@ -40,10 +40,6 @@ bits c = ap (λ (n : ℕ). n - 7516192768) c.nearest.ensures ∙ plain_bits c.ar
 
 fitting : (c : goal.After-nearest) → T (fits binary32 (rounded (found c.before)))
 fitting c = let w = found c.before in round-fits binary32 false (w.sig * 2 ^ w.exp) (2 ^ 1074)
-
-pub float_to_bits-x : goal.float_to_bits-x
-float_to_bits-x c =
-    let x = c.args.x in let w = found c in finite_no_nan x (value_finite x false (w.sig * 2 ^ w.exp) (2 ^ 1074) w.value)
 
 pub nearest-requires : goal.nearest-requires
 nearest-requires c = record { fact_1 = pattern_lt c.args.x (found c); fact_2 = lit< tt; fact_3 = lit< tt }

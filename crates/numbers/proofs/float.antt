@@ -1,0 +1,2 @@
+-- That std's test of finite numbers is `finite`.
+pub mod Same

@@ -1,2 +1,0 @@
--- What the proofs of the root share.
-pub mod Polished
