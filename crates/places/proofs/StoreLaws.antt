@@ -1,5 +1,5 @@
 -- What each way through keeping and restoring leaves. Assumes nothing.
-use Prim.Native.Nat.{ℕ, ◌+◌, ◌-◌, ◌≤◌}
+use Prim.Native.Nat.{ℕ, ◌+◌, ◌-◌}
 use mathlib.Core.Bool.{Bool, true, false}
 use mathlib.Core.List.{List, ◌++◌, append-nil}
 use mathlib.Core.Path.{◌≡◌, sym, ap, ◌∙◌}
@@ -7,33 +7,32 @@ use native.Mathlib.Omega.{arith}
 use lib.ListN.{length, take, drop, drop_of_length-le, length-drop}
 use lib.Seq.{length-take-le}
 use borrow.Rule.Slice.PartMut.{put_mid}
+use Rattle.std.specs.Prelude.{Option, None, Some, Ok, Err}
+use Rattle.std.specs.Option.{option_map_or}
 use Rattle.engine_spec.specs.Refusals.{refuses}
 use Rattle.engine_spec.specs.declared.types.Engine.{Engine}
 use Rattle.engine_spec.specs.declared.types.Refusal.{Refusal}
 use Rattle.engine_spec.specs.declared.types.Refusal.TheVariants as refusal
 use Rattle.engine_layout.specs.Layout.{state_in}
 use Rattle.engine_layout.specs.Written.{placed, state_as_words}
-use Rattle.places_spec.specs.Places.{place_start, place_in, is_kept, keep_refusal, kept, restored}
-use Rattle.places_spec.proofs.Places.{Room, room, words_long, kept_new, given_is, given_refused, given_empty, given_kept}
+use Rattle.places_spec.specs.Places.{Restored, place_start, place_in, is_kept, keep_refusal, kept, restored, restored_or_refused}
+use Rattle.places_spec.proofs.Places.{Room, room, words_long, kept_new, kept_refused, given_is, given_refused, given_empty, given_kept}
 
--- The refusal as the code found it, and its test.
-module _ (name words : ℕ) {r : Refusal} {b : Bool} (found : r ≡ keep_refusal name words) (tested : b ≡ refuses r) where
-  pub judged : {x : Bool} → b ≡ x → refuses (keep_refusal name words) ≡ x
-  judged h = ap (λ (q : Refusal). refuses q) (sym found) ∙ sym tested ∙ h
+-- What `check_keep` found, by the name and the store's length.
+module _ (name words : ℕ) where
+  pub passes : None ≡ keep_refusal name words → refuses (keep_refusal name words) ≡ false
+  passes found = ap (λ (r : Option Refusal). refuses r) (sym found)
 
-  pub roomy : b ≡ false → Room name words
-  roomy h = room name words (judged h)
+  pub refuses_it : {e : Refusal} → Some e ≡ keep_refusal name words → refuses (keep_refusal name words) ≡ true
+  refuses_it found = ap (λ (r : Option Refusal). refuses r) (sym found)
 
 -- ---- a place's words
-pub within : (name : ℕ) (store : List ℕ) → Room name (length store) → place_start name + 106 ≤ length store
-within name store r =
+place_long : (name : ℕ) (store : List ℕ) → Room name (length store) → length (place_in name store) ≡ 106
+place_long name store r =
     let a = r.least in
     let b = r.most in
     let l = r.long in
-    omega arith
-
-pub place_long : (name : ℕ) (store : List ℕ) → Room name (length store) → length (place_in name store) ≡ 106
-place_long name store r = length-take-le 106 (drop (place_start name) store) (omega (arith, length-drop (place_start name) store, within name store r))
+    length-take-le 106 (drop (place_start name) store) (omega (arith, length-drop (place_start name) store))
 
 -- The part that was cut out.
 pub cut : (name p : ℕ) (store : List ℕ) → p ≡ place_start name → take (p + 106 - p) (drop p store) ≡ place_in name store
@@ -47,10 +46,11 @@ filled : (ys w : List ℕ) → length w ≡ length ys → placed 0 ys w ≡ ys
 filled ys w h = ap (λ (t : List ℕ). ys ++ t) (drop_of_length-le w {i = length ys} (omega arith)) ∙ append-nil ys
 
 -- The place put back with the state's words in it.
-pub put_back : (e : Engine) (name p : ℕ) (store w : List ℕ) → refuses (keep_refusal name (length store)) ≡ false → p ≡ place_start name
+pub put_back : (e : Engine) (name p : ℕ) (store w : List ℕ) → None ≡ keep_refusal name (length store) → p ≡ place_start name
     → w ≡ placed 0 (state_as_words e) (take (p + 106 - p) (drop p store))
     → put_mid p (p + 106 - p) store w ≡ kept e name store
-put_back e name p store w h q v =
+put_back e name p store w found q v =
+    let h = passes name (length store) found in
     let long : length (place_in name store) ≡ length (state_as_words e) = place_long name store (room name (length store) h) ∙ sym (words_long e) in
     let k : p + 106 - p ≡ length (state_as_words e) = omega (arith, words_long e) in
     let y : w ≡ state_as_words e = v ∙ ap (placed 0 (state_as_words e)) (cut name p store q) ∙ filled (state_as_words e) (place_in name store) long in
@@ -59,23 +59,27 @@ put_back e name p store w h q v =
     ∙ ap (λ (a : ℕ). placed a (state_as_words e) store) q
     ∙ sym (kept_new e name store h)
 
+pub left_alone : (e : Engine) (name : ℕ) (store : List ℕ) {r : Refusal} → Some r ≡ keep_refusal name (length store) → store ≡ kept e name store
+left_alone e name store found = sym (kept_refused e name store (refuses_it name (length store) found))
+
 -- ---- restoring
 module _ (running : Engine) (name : ℕ) (store : List ℕ) where
-  pub refused : {r : Refusal} → r ≡ keep_refusal name (length store) → refuses (keep_refusal name (length store)) ≡ true → record { refusal = r; engine = running } ≡ restored running name store
-  refused found h =
-      ap (λ (q : Refusal). record { refusal = q; engine = running }) found
-      ∙ sym (given_refused running name (length store) (place_in name store) h)
-      ∙ sym (given_is running name store)
+  is : {x : Restored} → restored running name store ≡ x → restored_or_refused x ≡ restored_or_refused (restored running name store)
+  is q = ap (λ (y : Restored). restored_or_refused y) (sym q)
 
-  module _ {place : List ℕ} {b : Bool} (h : refuses (keep_refusal name (length store)) ≡ false) (is : place ≡ place_in name store) (tested : b ≡ is_kept place) where
-    holds : {x : Bool} → b ≡ x → is_kept (place_in name store) ≡ x
-    holds k = ap (λ (w : List ℕ). is_kept w) (sym is) ∙ sym tested ∙ k
+  pub refused : {e : Refusal} → Some e ≡ keep_refusal name (length store) → Err e ≡ restored_or_refused (restored running name store)
+  refused found =
+      ap (λ (o : Option Refusal). option_map_or (λ (r : Refusal). Err r) o (Ok running)) found
+      ∙ is (given_is running name store ∙ given_refused running name (length store) (place_in name store) (refuses_it name (length store) found))
 
-    pub empty : b ≡ false → record { refusal = refusal.NothingKept; engine = running } ≡ restored running name store
-    empty k = sym (given_empty running name (length store) (place_in name store) h (holds k)) ∙ sym (given_is running name store)
+  module _ {place : List ℕ} (found : None ≡ keep_refusal name (length store)) (there : place ≡ place_in name store) where
+    holds : {x : Bool} → x ≡ is_kept place → is_kept (place_in name store) ≡ x
+    holds k = ap (λ (w : List ℕ). is_kept w) (sym there) ∙ sym k
 
-    pub given : {e : Engine} → e ≡ state_in place → b ≡ true → record { refusal = refusal.None; engine = e } ≡ restored running name store
+    pub empty : false ≡ is_kept place → Err refusal.NothingKept ≡ restored_or_refused (restored running name store)
+    empty k = is (given_is running name store ∙ given_empty running name (length store) (place_in name store) (passes name (length store) found) (holds k))
+
+    pub given : {e : Engine} → e ≡ state_in place → true ≡ is_kept place → Ok e ≡ restored_or_refused (restored running name store)
     given q k =
-        ap (λ (f : Engine). record { refusal = refusal.None; engine = f }) (q ∙ ap state_in is)
-        ∙ sym (given_kept running name (length store) (place_in name store) h (holds k))
-        ∙ sym (given_is running name store)
+        ap (λ (f : Engine). Ok f) (q ∙ ap state_in there)
+        ∙ is (given_is running name store ∙ given_kept running name (length store) (place_in name store) (passes name (length store) found) (holds k))

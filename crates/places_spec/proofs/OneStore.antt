@@ -5,6 +5,7 @@ use mathlib.Core.List.{List, [], ◌∷◌, ◌++◌}
 use mathlib.Core.Path.{◌≡◌, refl, sym, ap, ◌∙◌, subst}
 use lib.Dec.{T, eqb, eqb→eq, eqb_refl}
 use lib.ListN.{length, replicate, length-replicate}
+use Rattle.std.specs.Prelude.{None, Some}
 use Rattle.engine_spec.specs.Windows.{Submission}
 use Rattle.engine_spec.specs.Refusals.{refuses}
 use Rattle.engine_spec.specs.Submitting.{submit}
@@ -14,9 +15,8 @@ use Rattle.engine_spec.proofs.Submissions.{answered_by}
 use Rattle.engine_spec.proofs.Sessions.{after_more, proper_more, guarantee_of_sessions}
 use Rattle.engine_layout.specs.Layout.{state_in}
 use Rattle.engine_layout.specs.Written.{ReadsBack}
-use Rattle.places_spec.specs.Places.{is_name, place_in, is_kept, keep_refusal, kept, restored}
-use Rattle.places_spec.specs.OneStore.{Call, submit_it, keep_as, restore_from, answers_asked, AllAsked, nothing, submitted, kept_as, restored_from, Mark, none, some, no_marks, marked, turn_to, past_at, turns_asked, OwnStore}
-use Rattle.places_spec.specs.declared.types.Restored.{Restored}
+use Rattle.places_spec.specs.Places.{Restored, is_name, place_in, is_kept, keep_refusal, kept, restored}
+use Rattle.places_spec.specs.OneStore.{Call, submit_it, keep_as, restore_from, answers_asked, AllAsked, nothing, submitted, kept_as, restored_from, Mark, no_marks, marked, turn_to, past_at, turns_asked, OwnStore}
 use Rattle.places_spec.proofs.Places.{given_is, given_kept, given_empty, given_refused, kept_refused, kept_place, kept_there, others_stay, named, zero_place}
 
 -- ---- a place and its mark
@@ -25,8 +25,8 @@ past_of b l = record { start = b; submissions = l }
 
 -- Nothing is kept and nothing marked, or a state and what led to it from this opening.
 data Matches (b : Start) : List ℕ → Mark → Type 0 where
-  neither : {place : List ℕ} → is_kept place ≡ false → Matches b place none
-  both : {place : List ℕ} {l : List Submission} → is_kept place ≡ true → Proper (past_of b l) → state_in place ≡ state_of (past_of b l) → Matches b place (some l)
+  neither : {place : List ℕ} → is_kept place ≡ false → Matches b place None
+  both : {place : List ℕ} {l : List Submission} → is_kept place ≡ true → Proper (past_of b l) → state_in place ≡ state_of (past_of b l) → Matches b place (Some l)
 
 -- The store's length, and each of its places.
 record Follows (b : Start) (words : ℕ) (store : List ℕ) (marks : ℕ → Mark) : Type 0 where
@@ -40,7 +40,7 @@ follows_zeros b words = record { long = length-replicate words 0; each = λ name
 -- ---- keeping
 -- The place of the name holds the state, the others are as they were.
 module _ (b : Start) (words : ℕ) (store : List ℕ) (marks : ℕ → Mark) (f : Follows b words store marks) (e : Engine) (k : List Submission) (h : Proper (past_of b k)) (is : e ≡ state_of (past_of b k)) (name : ℕ) where
-  kept_here : refuses (keep_refusal name (length store)) ≡ false → ReadsBack e → Matches b (place_in name (kept e name store)) (some k)
+  kept_here : refuses (keep_refusal name (length store)) ≡ false → ReadsBack e → Matches b (place_in name (kept e name store)) (Some k)
   kept_here r back =
       let q = kept_place e name store r in
       both (ap is_kept q ∙ kept_there e) h (ap state_in q ∙ back ∙ is)
@@ -51,8 +51,8 @@ module _ (b : Start) (words : ℕ) (store : List ℕ) (marks : ℕ → Mark) (f 
       differs : eqb other name ≡ false → other ≡ name → ⊥
       differs x y = subst T (sym (ap (λ (n : ℕ). eqb n name) y) ∙ x) (eqb_refl name)
 
-      go : (c : Bool) → (T c → other ≡ name) → (c ≡ false → other ≡ name → ⊥) → Matches b (place_in other (kept e name store)) (cond c (some k) (marks other))
-      go true x y = subst (λ (n : ℕ). Matches b (place_in n (kept e name store)) (some k)) (sym (x tt)) (kept_here r back)
+      go : (c : Bool) → (T c → other ≡ name) → (c ≡ false → other ≡ name → ⊥) → Matches b (place_in other (kept e name store)) (cond c (Some k) (marks other))
+      go true x y = subst (λ (n : ℕ). Matches b (place_in n (kept e name store)) (Some k)) (sym (x tt)) (kept_here r back)
       go false x y = subst (λ (w : List ℕ). Matches b w (marks other)) (sym ((others_stay e name store).places other u (y refl))) (f.each other u)
 
   follows_kept : (refuses (keep_refusal name (length store)) ≡ false → ReadsBack e) → Follows b words (kept e name store) (cond (refuses (keep_refusal name words)) marks (marked name k marks))
@@ -66,12 +66,12 @@ module _ (b : Start) (words : ℕ) (store : List ℕ) (marks : ℕ → Mark) (f 
 -- ---- restoring
 -- The running state stays, or a marked one comes.
 data Comes (b : Start) (e : Engine) : Engine → Mark → Type 0 where
-  stays : {f : Engine} → f ≡ e → Comes b e f none
-  comes : {f : Engine} {l : List Submission} → Proper (past_of b l) → f ≡ state_of (past_of b l) → Comes b e f (some l)
+  stays : {f : Engine} → f ≡ e → Comes b e f None
+  comes : {f : Engine} {l : List Submission} → Proper (past_of b l) → f ≡ state_of (past_of b l) → Comes b e f (Some l)
 
-come : (b : Start) (e : Engine) (words : ℕ) (store : List ℕ) (marks : ℕ → Mark) → Follows b words store marks → (name : ℕ) → Comes b e (restored e name store).engine (cond (refuses (keep_refusal name words)) none (marks name))
+come : (b : Start) (e : Engine) (words : ℕ) (store : List ℕ) (marks : ℕ → Mark) → Follows b words store marks → (name : ℕ) → Comes b e (restored e name store).engine (cond (refuses (keep_refusal name words)) None (marks name))
 come b e words store marks f name =
-    subst (λ (n : ℕ). Comes b e (restored e name store).engine (cond (refuses (keep_refusal name n)) none (marks name))) f.long (go (refuses (keep_refusal name (length store))) refl)
+    subst (λ (n : ℕ). Comes b e (restored e name store).engine (cond (refuses (keep_refusal name n)) None (marks name))) f.long (go (refuses (keep_refusal name (length store))) refl)
   where
     engine_is : {x : Restored} → restored e name store ≡ x → (restored e name store).engine ≡ x.engine
     engine_is q = ap (λ (r : Restored). r.engine) q
@@ -80,7 +80,7 @@ come b e words store marks f name =
     given mark (neither k) r = stays (engine_is (given_is e name store ∙ given_empty e name (length store) (place_in name store) r k))
     given mark (both k h is) r = comes h (engine_is (given_is e name store ∙ given_kept e name (length store) (place_in name store) r k) ∙ is)
 
-    go : (c : Bool) → refuses (keep_refusal name (length store)) ≡ c → Comes b e (restored e name store).engine (cond c none (marks name))
+    go : (c : Bool) → refuses (keep_refusal name (length store)) ≡ c → Comes b e (restored e name store).engine (cond c None (marks name))
     go true r = stays (engine_is (given_is e name store ∙ given_refused e name (length store) (place_in name store) r))
     go false r = given (marks name) (f.each name (named name (length store) r)) r
 

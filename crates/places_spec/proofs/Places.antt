@@ -8,7 +8,8 @@ use borrow.Author.Tests.{le-leb}
 use lib.Dec.{T, leb, ltb, eqb, leb→le, ltb→lt, nltb→le, lit<}
 use lib.ListN.{length, take, drop, get_or, replicate, length-append, length-drop, length-replicate, take-append-drop}
 use lib.Seq.{length-take-le, drop-drop, get_or-take, get_or-drop}
-use Rattle.engine_spec.specs.Refusals.{number_of, refuses, unless, ◌then◌}
+use Rattle.std.specs.Prelude.{None, Some}
+use Rattle.engine_spec.specs.Refusals.{refuses, unless, ◌then◌}
 use Rattle.engine_spec.specs.Lists.{answers_to}
 use Rattle.engine_spec.specs.declared.types.Engine.{Engine}
 use Rattle.engine_spec.specs.declared.types.Refusal.TheVariants as refusal
@@ -18,9 +19,8 @@ use Rattle.engine_layout.specs.Layout.{layout, part, state_in}
 use Rattle.engine_layout.specs.Written.{placed, state_as_words}
 use Rattle.engine_layout.proofs.Laws.{front_part, placed_part, placed_tail}
 use Rattle.engine_layout.proofs.Lengths.{engine_long}
-use Rattle.places_spec.specs.Places.{places_most, is_name, place_start, store_words, place_in, is_kept, keep_refusal, restore_refusal, kept_words, kept, restored}
+use Rattle.places_spec.specs.Places.{Restored, places_most, is_name, place_start, store_words, place_in, is_kept, keep_refusal, restore_refusal, kept_words, kept, restored}
 use Rattle.places_spec.specs.PlaceLaws.{NothingInZeros, GivenBack, OthersStay, KeepingLeaves, AsAtTheMark}
-use Rattle.places_spec.specs.declared.types.Restored.{Restored}
 
 -- ---- words put into a row
 placed_front : (a k at : ℕ) (ys w : List ℕ) → a + k ≤ at → at ≤ length w → part a k (placed at ys w) ≡ part a k w
@@ -65,19 +65,19 @@ named_most : (name : ℕ) → T (is_name name) → name ≤ 8
 named_most name h = leb→le name places_most (and_r (leb 1 name) (leb name places_most) h)
 
 pub room : (name words : ℕ) → refuses (keep_refusal name words) ≡ false → Room name words
-unfolding keep_refusal number_of
+unfolding keep_refusal
 room name words h = go (is_name name) (leb store_words words) h (named_least name) (named_most name) (leb→le store_words words)
   where
-    go : (b c : Bool) → refuses (cond b (cond c refusal.None refusal.StoreTooShort) refusal.NameOutOfRange) ≡ false → (T b → 1 ≤ name) → (T b → name ≤ 8) → (T c → 848 ≤ words) → Room name words
+    go : (b c : Bool) → refuses (cond b (cond c None (Some refusal.StoreTooShort)) (Some refusal.NameOutOfRange)) ≡ false → (T b → 1 ≤ name) → (T b → name ≤ 8) → (T c → 848 ≤ words) → Room name words
     go true true h x y z = record { least = x tt; most = y tt; long = z tt }
     go true false h x y z = clash h
     go false c h x y z = clash h
 
 pub named : (name words : ℕ) → refuses (keep_refusal name words) ≡ false → is_name name ≡ true
-unfolding keep_refusal number_of
+unfolding keep_refusal
 named name words h = go (is_name name) h
   where
-    go : (b : Bool) → refuses (cond b (cond (leb store_words words) refusal.None refusal.StoreTooShort) refusal.NameOutOfRange) ≡ false → b ≡ true
+    go : (b : Bool) → refuses (cond b (cond (leb store_words words) None (Some refusal.StoreTooShort)) (Some refusal.NameOutOfRange)) ≡ false → b ≡ true
     go true h = refl
     go false h = clash h
 
@@ -113,7 +113,7 @@ module _ (e : Engine) (name : ℕ) (store : List ℕ) (r : Room name (length sto
 -- ---- what is given back, by the store's length and the place's words alone
 abbrev pub given_by : Engine → ℕ → ℕ → List ℕ → Restored
 given_by running name words place =
-    let r = keep_refusal name words then unless (is_kept place) refusal.NothingKept refusal.None in
+    let r = keep_refusal name words then unless (is_kept place) refusal.NothingKept None in
     record { refusal = r; engine = cond (refuses r) running (state_in place) }
 
 pub given_is : (running : Engine) (name : ℕ) (store : List ℕ) → restored running name store ≡ given_by running name (length store) (place_in name store)
@@ -121,17 +121,15 @@ unfolding restored restore_refusal
 given_is running name store = refl
 
 -- Under what is no name the words don't matter.
-unnamed : (running : Engine) (name words : ℕ) (place : List ℕ) → is_name name ≡ false → given_by running name words place ≡ record { refusal = refusal.NameOutOfRange; engine = running }
-unfolding keep_refusal number_of
+unnamed : (running : Engine) (name words : ℕ) (place : List ℕ) → is_name name ≡ false → given_by running name words place ≡ record { refusal = Some refusal.NameOutOfRange; engine = running }
+unfolding keep_refusal
 unnamed running name words place h = rw h refl
 
 -- Of a place where something is kept, and of one where nothing is.
-pub given_kept : (running : Engine) (name words : ℕ) (place : List ℕ) → refuses (keep_refusal name words) ≡ false → is_kept place ≡ true → given_by running name words place ≡ record { refusal = refusal.None; engine = state_in place }
-unfolding number_of
+pub given_kept : (running : Engine) (name words : ℕ) (place : List ℕ) → refuses (keep_refusal name words) ≡ false → is_kept place ≡ true → given_by running name words place ≡ record { refusal = None; engine = state_in place }
 given_kept running name words place h k = rw (h, k) refl
 
-pub given_empty : (running : Engine) (name words : ℕ) (place : List ℕ) → refuses (keep_refusal name words) ≡ false → is_kept place ≡ false → given_by running name words place ≡ record { refusal = refusal.NothingKept; engine = running }
-unfolding number_of
+pub given_empty : (running : Engine) (name words : ℕ) (place : List ℕ) → refuses (keep_refusal name words) ≡ false → is_kept place ≡ false → given_by running name words place ≡ record { refusal = Some refusal.NothingKept; engine = running }
 given_empty running name words place h k = rw (h, k) refl
 
 -- Where keeping is refused, so is restoring, with the same number.
@@ -200,14 +198,14 @@ given_back running e name store h back =
     ∙ ap (λ (n : ℕ). given_by running name n (place_in name next)) (others_stay e name store).long
     ∙ ap (λ (x : List ℕ). given_by running name (length store) x) (kept_place e name store h)
     ∙ given_kept running name (length store) (kept_words e) h (kept_there e)
-    ∙ ap (λ (f : Engine). record { refusal = refusal.None; engine = f }) back
+    ∙ ap (λ (f : Engine). record { refusal = None; engine = f }) back
 
 pub as_at_the_mark : AsAtTheMark
 as_at_the_mark running e name store h back l = ap (λ (r : Restored). answers_to r.engine l) (given_back running e name store h back)
 
 -- ---- zeros
 unrefused : (name words : ℕ) → is_name name ≡ true → store_words ≤ words → refuses (keep_refusal name words) ≡ false
-unfolding keep_refusal number_of
+unfolding keep_refusal
 unrefused name words h l = rw (h, le-leb store_words words l) refl
 
 pub zero_place : (name n : ℕ) → is_kept (place_in name (replicate n 0)) ≡ false

@@ -1,5 +1,5 @@
 -- A session over one store that begins with zeros and that nobody else writes: each restore is refused or gives a state that the session kept. So it is a session such as the guarantee speaks of (engine_spec, Sessions). Definitions only.
-use Rattle.std.specs.Prelude.{ℕ, false, cond, List, [], ◌∷◌, ◌++◌, ◌≡◌, eqb, length, replicate}
+use Rattle.std.specs.Prelude.{ℕ, false, cond, List, [], ◌∷◌, ◌++◌, ◌≡◌, eqb, length, replicate, Option, None, Some}
 use Rattle.matcher_spec.specs.Index.{Matcher}
 use Rattle.engine_spec.specs.Windows.{Submission}
 use Rattle.engine_spec.specs.Refusals.{refuses}
@@ -34,24 +34,23 @@ pub data AllAsked (s : Settings) (m : Matcher) : Engine → List ℕ → List Ca
 
 -- ---- the session that it is
 -- Under a name what led to the state kept there, if one is.
-pub data Mark : Type 0 where
-  none : Mark
-  some : List Submission → Mark
+abbrev pub Mark : Type 0
+Mark = Option (List Submission)
 
 abbrev pub no_marks : ℕ → Mark
-no_marks name = none
+no_marks name = None
 
 abbrev pub marked : ℕ → List Submission → (ℕ → Mark) → ℕ → Mark
-marked name l marks other = cond (eqb other name) (some l) (marks other)
+marked name l marks other = cond (eqb other name) (Some l) (marks other)
 
 -- A restore of a mark is a turn; of none it is refused, and no turn.
 abbrev pub turn_to : Past → Mark → List Turn
-turn_to p none = []
-turn_to p (some k) = returns (state_of (record { start = p.start; submissions = k })) (record { start = p.start; submissions = k }) ∷ []
+turn_to p None = []
+turn_to p (Some k) = returns (state_of (record { start = p.start; submissions = k })) (record { start = p.start; submissions = k }) ∷ []
 
 abbrev pub past_at : Past → Mark → Past
-past_at p none = p
-past_at p (some k) = record { start = p.start; submissions = k }
+past_at p None = p
+past_at p (Some k) = record { start = p.start; submissions = k }
 
 -- Over a store of so many words.
 unfoldable pub turns_asked : ℕ → Past → (ℕ → Mark) → List Call → List Turn
@@ -59,7 +58,7 @@ turns_asked words p marks [] = []
 turns_asked words p marks (submit_it i ∷ l) = submits i ∷ turns_asked words (further p i) marks l
 turns_asked words p marks (keep_as name ∷ l) = turns_asked words p (cond (refuses (keep_refusal name words)) marks (marked name p.submissions marks)) l
 turns_asked words p marks (restore_from name ∷ l) =
-    let mark = cond (refuses (keep_refusal name words)) none (marks name) in
+    let mark = cond (refuses (keep_refusal name words)) None (marks name) in
     turn_to p mark ++ turns_asked words (past_at p mark) marks l
 
 -- Its answers are those of a session whose restores each give a state that the session reached, and so all is promised of it.

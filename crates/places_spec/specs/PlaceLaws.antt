@@ -1,5 +1,5 @@
 -- What is proved of named places. Definitions only.
-use Rattle.std.specs.Prelude.{ℕ, ◌≤◌, true, false, List, ◌≡◌, length, drop, replicate}
+use Rattle.std.specs.Prelude.{ℕ, ◌≤◌, true, false, List, ◌≡◌, length, drop, replicate, None, Some}
 use Rattle.engine_spec.specs.Windows.{Submission}
 use Rattle.engine_spec.specs.Refusals.{refuses}
 use Rattle.engine_spec.specs.Lists.{answers_to}
@@ -10,11 +10,11 @@ use Rattle.places_spec.specs.Places.{is_name, store_words, place_in, keep_refusa
 
 -- A store of zeros keeps nothing under any name.
 abbrev pub NothingInZeros : Type 0
-NothingInZeros = (running : Engine) (name n : ℕ) → is_name name ≡ true → store_words ≤ n → restored running name (replicate n 0) ≡ record { refusal = refusal.NothingKept; engine = running }
+NothingInZeros = (running : Engine) (name n : ℕ) → is_name name ≡ true → store_words ≤ n → restored running name (replicate n 0) ≡ record { refusal = Some refusal.NothingKept; engine = running }
 
 -- What was kept is given back, whatever runs then and whatever stood there.
 abbrev pub GivenBack : Type 0
-GivenBack = (running e : Engine) (name : ℕ) (store : List ℕ) → refuses (keep_refusal name (length store)) ≡ false → ReadsBack e → restored running name (kept e name store) ≡ record { refusal = refusal.None; engine = e }
+GivenBack = (running e : Engine) (name : ℕ) (store : List ℕ) → refuses (keep_refusal name (length store)) ≡ false → ReadsBack e → restored running name (kept e name store) ≡ record { refusal = None; engine = e }
 
 -- All that keeping leaves as it was: the words of the other places, and so what they give back; what lies behind the places; the length.
 pub record OthersStay (e : Engine) (name : ℕ) (store : List ℕ) : Type 0 where
