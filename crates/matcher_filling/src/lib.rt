@@ -2,5 +2,6 @@
 // hands both on.
 #![tactic(auto)]
 
+mod centred;
 pub mod index;
 pub mod query;

@@ -1,19 +1,24 @@
--- The laws that the blocks of places cite: what the passes over a block leave at each place, and a block that comes back behind those before it. Assumes nothing.
-use mathlib.Core.Path.{◌≡◌, sym, ap, ◌∙◌}
-use Prim.Native.Nat.{ℕ, ◌+◌, ◌-◌, ◌<◌, ◌≤◌}
+-- The laws that the blocks of places cite: what the passes over a block leave at each place, a block that comes back behind those before it, and one more band. Assumes nothing.
+use mathlib.Core.Path.{◌≡◌, refl, sym, ap, subst, ◌∙◌}
+use Prim.Native.Nat.{ℕ, zero, suc, ◌+◌, ◌-◌, ◌<◌, ◌≤◌}
 use native.Mathlib.Nat.{add_assoc}
+use native.Mathlib.Numerals.{add-one}
 use native.Mathlib.Omega.{arith}
-use mathlib.Core.List.{List}
-use lib.ListN.{length, get_or, take, drop}
+use mathlib.Core.List.{List, [], ◌∷◌, ◌++◌}
+use lib.ListN.{length, get_or, take, drop, replicate, get_or-append}
 use lib.Seq.{get_or-take, get_or-drop, drop-drop, drop_at}
 use lib.Ieee.{Float, nan}
 use borrow.Rule.Slice.PartMut.{put_mid, mid_len}
-use Rattle.numbers_spec.specs.Arithmetic.{◌⊕◌, ◌⊖◌, ◌⊗◌, ◌⊘◌, at_least}
-use Rattle.numbers_spec.proofs.RowLaws.{root_at, Filling, length_tabulate, tabulate_ext}
-use Rattle.numbers_spec.specs.Rows.{roots_of, tabulate}
+use Rattle.std.proofs.lemmas.List.{replicate_more}
+use Rattle.numbers_spec.specs.Arithmetic.{◌⊕◌, ◌⊖◌, ◌⊗◌, ◌⊘◌, at_least, zero⁺}
+use Rattle.numbers_spec.proofs.RowLaws.{root_at, Filling, filling_none, filling_all, length_tabulate, tabulate_ext, tabulate_then}
+use Rattle.numbers_spec.specs.Rows.{roots_of, sum_to, tabulate}
 use Rattle.numbers_spec.specs.Root.{root_of}
 use Rattle.matcher_spec.specs.Scores.{dot, band_term}
 use Rattle.numbers_spec.proofs.PartLaws.{rest, row_at, row_length, filling_part}
+
+-- where a loop that fills a row begins, and where it ends
+pub ruleset fillings = (filling_none, filling_all)
 
 -- ---- an element
 -- what is lent from i on is still as d has it
@@ -31,20 +36,12 @@ from l at = take (length l - at) (drop at l)
 from_at : {A : Type 0} (l : List A) (at i : ℕ) (z : A) → get_or (from l at) i z ≡ get_or l (at + i) z
 from_at l at i z = ap (λ (x : List _). get_or x i z) (rest l at) ∙ get_or-drop at l i z
 
+-- ---- what was written to a row's front, where it is read
+front_at : {A : Type 0} (k i : ℕ) (row front : List A) (z : A) → i < length front → get_or (put_mid 0 k row front) i z ≡ get_or front i z
+front_at k i row front z h = get_or-append front (drop k row) z i h
+
 -- ---- a block
 module _ (reference energy query : List Float) (floor whole : Float) where
-  -- the quotient of what the passes wrote is what the band adds
-  pub quotient_is : (n k i : ℕ) {dotted products roots : List Float}
-      → products ≡ tabulate (λ (j : ℕ). whole ⊗ at_least floor (get_or energy (j + length query) nan ⊖ get_or energy j nan)) k
-      → roots ≡ roots_of products
-      → dotted ≡ tabulate (λ (j : ℕ). dot (take (length query) (drop j reference)) query) n
-      → i < n → i < k → get_or dotted i nan ⊘ get_or roots i nan ≡ band_term reference energy query floor whole i
-  unfolding band_term
-  quotient_is n k i {products = products} p q d hn hk =
-      let size = row_length _ k p in
-      let root = ap (λ (l : List Float). get_or l i nan) q ∙ root_at products i ∙ ap root_of (row_at _ k i nan p hk) in
-      (λ j. row_at _ n i nan d hn j ⊘ root j)
-
   -- what the band adds, where reference and energies begin at the place `at`
   term_from : (at i : ℕ) → band_term (from reference at) (from energy at) query floor whole i ≡ band_term reference energy query floor whole (at + i)
   unfolding band_term
@@ -53,18 +50,44 @@ module _ (reference energy query : List Float) (floor whole : Float) where
       let end = from_at energy at (i + length query) nan ∙ ap (λ (j : ℕ). get_or energy j nan) (sym (add_assoc at i (length query))) in
       (λ j. dot (take (length query) (row j)) query ⊘ root_of (whole ⊗ at_least floor (end j ⊖ from_at energy at i nan j)))
 
-  -- a score with the band's term added
-  abbrev pub added : List Float → ℕ → ℕ → Float
-  added scores low j = get_or scores j nan ⊕ band_term reference energy query floor whole (low + j)
+  -- The passes wrote to the fronts of the working rows: the quotient of what they wrote is what the band adds.
+  pub quotient_is : (at k i : ℕ) (before₁ before₂ before₃ : List Float) {n m : ℕ} {products roots dotted : List Float}
+      → products ≡ tabulate (λ (j : ℕ). whole ⊗ at_least floor (get_or (from energy at) (j + length query) nan ⊖ get_or (from energy at) j nan)) n
+      → roots ≡ roots_of (take k (put_mid 0 k before₁ products))
+      → dotted ≡ tabulate (λ (j : ℕ). dot (take (length query) (drop j (from reference at))) query) m
+      → i < k → i < n → i < m → i < length roots
+      → get_or (put_mid 0 k before₂ dotted) i nan ⊘ get_or (put_mid 0 k before₃ roots) i nan ≡ band_term reference energy query floor whole (at + i)
+  unfolding band_term
+  quotient_is at k i b₁ b₂ b₃ {n} {m} {products} {roots} {dotted} p q d hk hn hm hr =
+      let product = get_or-take k _ i nan hk ∙ front_at k i b₁ products nan (rw (row_length _ n p) hn) ∙ row_at _ n i nan p hn in
+      let root = front_at k i b₃ roots nan hr ∙ ap (λ (l : List Float). get_or l i nan) q ∙ root_at (take k (put_mid 0 k b₁ products)) i ∙ ap root_of product in
+      let quotient = front_at k i b₂ dotted nan (rw (row_length _ m d) hm) ∙ row_at _ m i nan d hm in
+      (λ j. quotient j ⊘ root j) ∙ term_from at i
 
-  -- the next block was lent, and came back with the band's terms added
-  pub block_more : (scores : List Float) (low i end : ℕ) {row part : List Float} → Filling (added scores low) scores i row
-      → part ≡ tabulate (λ (j : ℕ). get_or (take (end - i) (drop i row)) j nan ⊕ band_term (from reference (low + i)) (from energy (low + i)) query floor whole j) (length (take (end - i) (drop i row)))
-      → i ≤ end → end ≤ length scores → Filling (added scores low) scores end (put_mid i (end - i) row part)
-  block_more scores low i end {row} {part} p q h k =
-      let term : ℕ → Float = band_term reference energy query floor whole in
-      let each : part ≡ tabulate (λ (j : ℕ). added scores low (i + j)) (end - i) =
-      q
-      ∙ ap (tabulate _) (mid_len i end row (omega (arith, p.size)))
-      ∙ tabulate_ext _ _ (end - i) (λ j w t. filling_rest scores i (end - i) nan p j w t ⊕ (term_from (low + i) j ∙ ap term (add_assoc low i j)) t) in
-      filling_part (added scores low) scores i end p each h k
+-- the next block was lent, and came back with the band's terms added
+pub block_more : (t : ℕ → Float) (scores : List Float) (low i end : ℕ) {past : ℕ} {row part : List Float} → let added = (λ (k : ℕ). get_or scores k nan ⊕ t (low + k)) in Filling added scores i row
+    → part ≡ tabulate (λ (j : ℕ). get_or (take (end - i) (drop i row)) j nan ⊕ t (low + i + j)) (length (take (end - i) (drop i row)))
+    → i ≤ end → end ≤ length scores → end ≡ past → Filling added scores past (put_mid i (end - i) row part)
+block_more t scores low i end {row = row} {part = part} p q h k e =
+    let added : ℕ → Float = λ j. get_or scores j nan ⊕ t (low + j) in
+    let each : part ≡ tabulate (λ (j : ℕ). added (i + j)) (end - i) =
+    q
+    ∙ ap (tabulate _) (mid_len i end row (omega (arith, p.size)))
+    ∙ tabulate_ext _ _ (end - i) (λ j w s. filling_rest scores i (end - i) nan p j w s ⊕ t (add_assoc low i j s)) in
+    subst (λ (m : ℕ). Filling added scores m (put_mid i (end - i) row part)) e (filling_part added scores i end p each h k)
+
+-- ---- the sum over the bands
+-- no band yet
+pub sums_none : (t : ℕ → ℕ → Float) (n : ℕ) → replicate n zero⁺ ≡ tabulate (λ (i : ℕ). sum_to (t i) 0) n
+unfolding tabulate sum_to
+sums_none t zero = refl
+sums_none t (suc n) = rw add-one at (sym (replicate_more n zero⁺)) ∙ (λ k. sums_none t n k ++ (zero⁺ ∷ []))
+
+-- one more band at each place
+pub sums_more : (t : ℕ → ℕ → Float) (u : ℕ → Float) (b n : ℕ) {old new : List Float} → new ≡ tabulate (λ (i : ℕ). get_or old i nan ⊕ u i) (length old)
+    → old ≡ tabulate (λ (i : ℕ). sum_to (t i) b) n → ((i : ℕ) → u i ≡ t i b) → new ≡ tabulate (λ (i : ℕ). sum_to (t i) (b + 1)) n
+unfolding sum_to
+sums_more t u b n p q e =
+    p
+    ∙ tabulate_then (λ (i : ℕ). sum_to (t i) b) (λ (i : ℕ) (s : Float). s ⊕ u i) nan n q
+    ∙ rw add-one (λ k. tabulate (λ (i : ℕ). sum_to (t i) b ⊕ e i k) n)

@@ -4,10 +4,10 @@
 ghost use Rattle.std.specs.Prelude.{ℕ, ◌+◌, ◌<◌, ◌≤◌, get_or, length, ◌≡◌};
 ghost use Rattle.std.specs.Float.{nan};
 ghost use Rattle.numbers_spec.specs.Rows.{tabulate};
-ghost use Rattle.matcher_scores.specs.Blocks.{block};
-ghost use Rattle.matcher_spec.specs.Scores.{band_term};
+ghost use Rattle.matcher_scores.specs.Blocks.{block, term_of};
 ghost use Rattle.numbers_spec.specs.Arithmetic.{◌⊕◌, ◌⊖◌, ◌⊗◌, ◌⊘◌, at_least};
 
+use crate::bands::Pair;
 use matcher_dots::tiles::{TILE, dots};
 use numbers::float::{at_least, widen};
 use numbers_rows::root_row::root_row;
@@ -16,72 +16,79 @@ use numbers_rows::root_row::root_row;
 // whole number of tiles.
 pub const BLOCK: usize = 120;
 
-// Where the block that begins at i ends, of n places.
-pub fn block_end(i: usize, n: usize) -> usize
-    requires { i < n }
-    ensures { (i < result) × (result ≤ n) × (result ≤ i + block) }
-{
-    if n - i < BLOCK { n } else { i + BLOCK }
+// The working rows of a block.
+#[derive(Drop)]
+pub struct Rows {
+    dotted: [f32; BLOCK],
+    products: [f64; BLOCK],
+    roots: [f64; BLOCK],
+}
+
+impl Rows {
+    pub fn new() -> Self {
+        Rows {
+            dotted: [0.0; BLOCK],
+            products: [0.0; BLOCK],
+            roots: [0.0; BLOCK],
+        }
+    }
+
+    // Adds what a band adds to the scores of a block of places, the first of which is `at`. It may
+    // work on more places than there are scores, so that they are a whole number of tiles.
+    pub fn add_block(&mut self, scores: &mut [f64], pair: &Pair<'_>, at: usize)
+        requires some_scores { 0 < length scores.old }
+        requires one_block { length scores.old ≤ block }
+        requires within { at + length scores.old + length pair.now.query.now ≤ length pair.now.reference.now + 1 }
+        ensures { scores.new ≡ tabulate (λ (i : ℕ). get_or scores.old i nan ⊕ term_of pair.now (at + i)) (length scores.old) }
+    {
+        let count = pair.query.len();
+        let k = padded(scores.len(), at, count, pair.reference.len());
+        let dotted = &mut self.dotted[..];
+        let products = &mut self.products[..];
+        let roots = &mut self.roots[..];
+        fill_products(
+            &mut products[..k],
+            &pair.energy[at..],
+            count,
+            pair.floor,
+            pair.whole,
+        );
+        root_row(&mut roots[..k], &products[..k]);
+        dots(&mut dotted[..k], &pair.reference[at..], pair.query);
+        add_quotients(scores, dotted, roots);
+    }
 }
 
 // m, or the next multiple of a tile where a row of `frames` has so many places from `at` on.
-pub fn padded(m: usize, at: usize, count: usize, frames: usize) -> usize
+fn padded(m: usize, at: usize, count: usize, frames: usize) -> usize
     requires { (0 < m) × ((m ≤ block) × (at + m + count ≤ frames + 1)) }
     ensures { (m ≤ result) × (result ≤ block) × (at + result + count ≤ frames + 1) }
 {
-    let full = (m + TILE - 1) / TILE * TILE;
+    let full = m.next_multiple_of(TILE);
     let spare = frames - (at + (m - 1) + count);
     if full - m <= spare { full } else { m }
 }
 
-// Adds what a band adds to the scores of a block of places. The reference and its energies begin at
-// the first of them; the working rows may be longer than the scores.
-pub fn add_block(
-    scores: &mut [f64],
-    reference: &[f32],
-    energy: &[f64],
-    query: &[f32],
-    floor: f64,
-    whole: f64,
-    dotted: &mut [f32],
-    products: &mut [f64],
-    roots: &mut [f64],
-)
-    requires scores_in_bounds { length scores.old ≤ length dotted.old }
-    requires products_len_1 { length products.old ≡ length dotted.old }
-    requires products_len_2 { length roots.old ≡ length dotted.old }
-    requires query_in_bounds_1 { length dotted.old + length query.now ≤ length reference.now + 1 }
-    requires query_in_bounds_2 { length dotted.old + length query.now ≤ length energy.now }
-    ensures { scores.new ≡ tabulate (λ (i : ℕ). get_or scores.old i nan ⊕ band_term reference.now energy.now query.now floor whole i) (length scores.old) }
-{
-    fill_products(products, energy, query.len(), floor, whole);
-    root_row(roots, products);
-    dots(dotted, reference, query);
-    add_quotients(scores, dotted, roots);
-}
-
 // What stands under the root at each place: the query's energy times the reference's over `count`
 // frames.
+#[tactic(auto, using(crate::proofs::BlockLaws::fillings))]
 fn fill_products(products: &mut [f64], energy: &[f64], count: usize, floor: f64, whole: f64)
     requires { length products.old + count ≤ length energy.now }
     ensures { products.new ≡ tabulate (λ (i : ℕ). whole ⊗ at_least floor (get_or energy.now (i + count) nan ⊖ get_or energy.now i nan)) (length products.old) }
 {
-    let mut i = 0usize;
-    while i < products.len() {
+    for i in 0..products.len() {
         products[i] = whole * at_least(floor, energy[i + count] - energy[i]);
-        i += 1;
     }
 }
 
 // Adds each dot product over its root.
+#[tactic(auto, using(crate::proofs::BlockLaws::fillings))]
 fn add_quotients(scores: &mut [f64], dotted: &[f32], roots: &[f64])
-    requires fact_1 { length scores.old ≤ length dotted.now }
-    requires fact_2 { length scores.old ≤ length roots.now }
+    requires dots { length scores.old ≤ length dotted.now }
+    requires roots { length scores.old ≤ length roots.now }
     ensures { scores.new ≡ tabulate (λ (i : ℕ). get_or scores.old i nan ⊕ (get_or dotted.now i nan ⊘ get_or roots.now i nan)) (length scores.old) }
 {
-    let mut i = 0usize;
-    while i < scores.len() {
+    for i in 0..scores.len() {
         scores[i] = scores[i] + widen(dotted[i]) / roots[i];
-        i += 1;
     }
 }

@@ -2,5 +2,6 @@
 // alone calls it.
 #![tactic(auto)]
 
+mod bands;
 mod blocks;
 pub mod scores;
