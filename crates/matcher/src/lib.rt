@@ -3,6 +3,7 @@
 // the crates below state. `index` and `query` are matcher_filling's.
 #![tactic(auto)]
 
+mod fronts;
 pub mod local;
 pub mod whole;
 

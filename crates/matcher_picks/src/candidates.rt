@@ -1,5 +1,5 @@
 // Candidates: their order, the 750 rule and the margin.
-ghost use Rattle.std.specs.Prelude.{◌<◌, ◌≤◌, length, [], ◌≡◌};
+ghost use Rattle.std.specs.Prelude.{◌+◌, ◌<◌, length, [], ◌≡◌};
 ghost use Rattle.arrayvec.specs.ArrayVec.{array_vec_len};
 ghost use Rattle.matcher_spec.specs.Candidates.{crowded, independent, insert, margin_of};
 
@@ -18,7 +18,8 @@ pub fn nothing_found() -> MatchResult
 // Puts c before the first candidate that scores lower.
 pub fn insert_by_score(found: &mut MatchResult, c: Candidate)
     requires { array_vec_len found.old < CANDIDATES_MOST }
-    ensures { found.new.items ≡ insert c found.old.items }
+    ensures items { found.new.items ≡ insert c found.old.items }
+    ensures len { array_vec_len found.new ≡ array_vec_len found.old + 1 }
 {
     let n = found.len();
     let at = found.iter().position(|d| d.score < c.score).unwrap_or(n);

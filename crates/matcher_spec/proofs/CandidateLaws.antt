@@ -25,6 +25,7 @@ insert_is c (d ∷ l) = at (lt d.score c.score) (insert_is c l)
   where
     first : ℕ
     first = list.position_or_len (λ (e : Candidate). lt e.score c.score) l
+
     at : (t : Bool) → insert c l ≡ list.insert l first c → cond t (c ∷ d ∷ l) (d ∷ insert c l) ≡ list.insert (d ∷ l) (cond (not t) (1 + first) 0) c
     at true e = refl
     at false e = let more : 1 + first ≡ suc first = omega arith in rw more (ap (λ (r : List Candidate). d ∷ r) e)

@@ -1,14 +1,11 @@
--- `matcher::whole::candidates_around` meets its contract. The loop's invariant: the candidates around the first k peaks are found, and the front of `work` is as it was. Assumes nothing.
-use mathlib.Core.Path.{◌≡◌}
-use Prim.Native.Nat.{◌+◌, ◌-◌, ◌*◌, ◌≤◌}
-use lib.ListN.{length, take}
-use Rattle.matcher_spec.specs.Energy.{bands_of}
-use Rattle.matcher.proofs.SearchLaws.{Found}
+-- The loop's invariant: to go on from the candidates found gives what the contract says.
+use Rattle.std.proofs.Common.{◌≡◌, ◌≤◌, length, drop}
+use Rattle.matcher_spec.specs.Candidates.{sort_into, sorted}
+use Rattle.matcher_spec.specs.Lent.{bands_in}
+use Rattle.matcher_spec.specs.Search.{candidates_at}
 use Rattle.matcher.proofs.whole.candidates_around.Given as goal
 
-abbrev pub invariant-loop-k : goal.invariant-loop-k
-invariant-loop-k l = (l.k ≤ l.limit) × (length l.work ≡ length l.initial.work) × (take l.at l.work ≡ take l.at l.initial.work)
-    × Found l.reference (bands_of l.reference.frames l.fine l.energy) (bands_of l.n l.query (take (l.reference.bands * (l.n + 1)) l.initial.work)) l.start (take l.limit l.peaks) l.k l.found
-
-abbrev pub decreases-loop-k : goal.decreases-loop-k
-decreases-loop-k l = l.limit - l.k
+abbrev pub invariant-loop-peak : goal.invariant-loop-peak
+invariant-loop-peak l =
+    let around = candidates_at l.compared.reference (bands_in l.compared.fine) (bands_in l.compared.query) l.compared.start in
+    (length l.found.items ≤ l.peak-index) × (sort_into l.found.items (around (drop l.peak-index l.peaks)) ≡ sorted (around l.peaks))

@@ -1,4 +1,3 @@
--- `matcher::whole::peak_separation` meets its contract. Assumes nothing.
 use lib.Ieee.{of_bits, of_int}
 use Rattle.matcher_spec.specs.Search.{separation}
 use Rattle.matcher.proofs.whole.peak_separation.Goals as goal

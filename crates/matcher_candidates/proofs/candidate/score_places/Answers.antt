@@ -1,8 +1,7 @@
 -- The query's whole energies are the front of an array of 64. Assumes nothing.
-use Rattle.std.proofs.Common.{◌≡◌, List, take, Float, ◌∙◌, ap}
+use Rattle.std.proofs.Common.{◌≡◌, take}
 use Rattle.matcher_spec.specs.Energy.{whole_energies}
 use Rattle.matcher_spec.specs.Lent.{bands_in}
-use Rattle.matcher_spec.specs.Scores.{correlations}
 use Rattle.matcher_bands.proofs.EnergyLaws.{whole_front}
 use Rattle.matcher_candidates.proofs.candidate.score_places.Goals as goal
 

@@ -8,8 +8,8 @@ use Rattle.matcher_spec.specs.declared.types.Candidate.{Candidate}
 use Rattle.matcher_spec.proofs.CandidateLaws.{first_or_length, insert_is}
 use Rattle.matcher_picks.proofs.candidates.insert_by_score.Goals as goal
 
-pub returns : goal.returns
-returns c =
+pub returns-clause-items : goal.returns-clause-items
+returns-clause-items c =
     let l = c.args.found.now.items in
     let lower : Candidate → Bool = λ d. lt d.score c.args.c.score in
     let found : c.position.result ≡ position lower l = position_from_yields_List lower _ _ _ c.position.ensures.ran (YieldsList-from_slice l (search rules)) (λ x b q k. search rules) in
