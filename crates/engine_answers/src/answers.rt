@@ -17,10 +17,11 @@ use engine_spec::types::{
 pub fn reread(engine: Engine, endpoint: RecordedMs) -> Submitted
     ensures { Ok result ≡ submitted (reread engine endpoint) }
 {
+    let snapshot = shown_again(endpoint, engine.milestones, engine.last.snapshot);
     Submitted {
         answer: AnswerKind::Reread,
         engine,
-        snapshot: shown_again(endpoint, engine.milestones, engine.last.snapshot),
+        snapshot,
     }
 }
 
@@ -63,14 +64,15 @@ pub fn computed_from(engine: Engine, window: &Window<'_>, clock: ClockMs, d: &De
         has_snapshot: true,
         snapshot,
     };
+    let next = Engine {
+        lock: d.lock,
+        milestones,
+        last,
+        ..engine
+    };
     Submitted {
         answer: AnswerKind::Computed,
-        engine: Engine {
-            lock: d.lock,
-            milestones,
-            last,
-            ..engine
-        },
+        engine: next,
         snapshot,
     }
 }

@@ -39,11 +39,8 @@ pub fn comparable_frames(hop: f64, window: &Window<'_>) -> usize
     ensures { result ≡ comparable_frames hop window.now }
 {
     let trimmed = count(context_frames(hop));
-    window
-        .times
-        .len()
-        .saturating_sub(trimmed)
-        .saturating_sub(trimmed)
+    let rest = window.times.len().saturating_sub(trimmed);
+    rest.saturating_sub(trimmed)
 }
 
 // The part of the window that centring leaves, by its duration.
