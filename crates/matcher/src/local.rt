@@ -34,14 +34,7 @@ pub fn local_search(
     requires values_len_2 { WorkRoom reference window.now.bands (length window.now.times) work32.old work64.old }
     ensures { result.items ≡ local_search reference (lent_bands reference.bands reference.frames index.now.fine index.now.fine_energy) window.now lower upper }
 {
-    let filled = fill_query(
-        reference,
-        window.bands,
-        window.times,
-        window.values,
-        work32,
-        work64,
-    );
+    let filled = fill_query(reference, window, work32, work64);
     local_found(
         filled, index, reference, window, lower, upper, work32, work64,
     )

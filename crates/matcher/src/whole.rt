@@ -39,14 +39,7 @@ pub fn whole_search(
     requires values_len_2 { WorkRoom reference window.now.bands (length window.now.times) work32.old work64.old }
     ensures { result.items ≡ whole_search (lent_matcher reference index.now) window.now }
 {
-    let filled = fill_query(
-        reference,
-        window.bands,
-        window.times,
-        window.values,
-        work32,
-        work64,
-    );
+    let filled = fill_query(reference, window, work32, work64);
     whole_found(filled, index, reference, window, work32, work64)
 }
 

@@ -45,13 +45,10 @@ pub fn score_places(scores: &mut [f64], reference: &Bands<'_>, query: &Bands<'_>
     let whole = whole_energies(query.energy, query.bands, query.count);
     correlations(
         scores,
-        reference.values,
-        reference.energy,
-        reference.count,
+        reference,
         query.values,
         &whole[..query.bands],
         query.count,
-        query.bands,
         low,
     );
 }
@@ -71,42 +68,9 @@ fn candidate_of(compared: &Comparison<'_>, scores: &[f64], low: usize) -> Candid
     Candidate {
         offset_ms: compared.reference.start_ms + place * compared.reference.hop_ms - compared.start,
         score: best.score,
-        first_half_score: score_part(
-            compared.fine.values,
-            compared.fine.energy,
-            compared.fine.count,
-            compared.query.values,
-            compared.query.energy,
-            n,
-            compared.fine.bands,
-            index,
-            0,
-            half,
-        ),
-        second_half_score: score_part(
-            compared.fine.values,
-            compared.fine.energy,
-            compared.fine.count,
-            compared.query.values,
-            compared.query.energy,
-            n,
-            compared.fine.bands,
-            index,
-            half,
-            n,
-        ),
-        recent_score: score_part(
-            compared.fine.values,
-            compared.fine.energy,
-            compared.fine.count,
-            compared.query.values,
-            compared.query.energy,
-            n,
-            compared.fine.bands,
-            index,
-            recent,
-            n,
-        ),
+        first_half_score: score_part(&compared.fine, &compared.query, index, 0, half),
+        second_half_score: score_part(&compared.fine, &compared.query, index, half, n),
+        recent_score: score_part(&compared.fine, &compared.query, index, recent, n),
     }
 }
 

@@ -10,4 +10,4 @@ unfolding whole_energies
 returns c =
     let q = c.args.query.now in
     let whole : take q.bands c.whole_energies-whole.result ≡ whole_energies q.bands (bands_in q) = whole_front q.bands q.count _ _ c.whole_energies-whole.ensures in
-    rw (← whole, ← c.requires.same_bands) c.correlations.ensures
+    rw (← whole) c.correlations.ensures
