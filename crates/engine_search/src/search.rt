@@ -22,6 +22,7 @@ use matcher_spec::types::Reference;
 
 // A local search for the track, if there is one that may still coast, then a whole search, if one is
 // granted and due.
+#[tactic(auto, unfolding(engine_spec::specs::Tracking::tracked))]
 pub fn searched(
     granted: bool,
     settings: Settings,
@@ -49,6 +50,7 @@ pub fn searched(
 }
 
 // With a track that may coast: the query serves the local search and the whole one.
+#[tactic(auto, unfolding(engine_spec::specs::Locking::searched, engine_spec::specs::Tracking::tracked))]
 fn with_track(
     granted: bool,
     track: Hypothesis,
@@ -88,6 +90,7 @@ fn with_track(
 }
 
 // Without one: the query is filled if a whole search is made.
+#[tactic(auto, unfolding(engine_spec::specs::Locking::searched))]
 fn without_track(
     granted: bool,
     settings: Settings,
