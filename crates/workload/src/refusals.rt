@@ -12,7 +12,7 @@ use engine_spec::types::Refusal;
 use workload_spec::types::LoadRefusal;
 
 // 16, 2, 3 and 4, in this order. Sizes are tested before any product of them.
-#[tactic(auto, unfolding(workload_spec::specs::Fill::load_refusal), using(engine_refusals::proofs::TestLaws::few))]
+#[tactic(auto, unfolding(workload_spec::specs::Fill::load_refusal), using(engine_refusals::proofs::Products::few))]
 pub fn check_load(seed: u64, hop: f64, lent: &Window<'_>) -> Result<(), LoadRefusal>
     ensures value { result_err result ≡ load_refusal seed hop lent.now }
     ensures few_frames { OnOk result (length lent.now.times ≤ frames_most) }
