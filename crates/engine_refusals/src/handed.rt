@@ -16,7 +16,7 @@ use numbers::float::is_finite;
 
 // 6: the index holds a row of frames and one of a quarter of them for each band, with an energy more
 // than values in a row.
-#[tactic(auto, unfolding(engine_spec::specs::Refusals::index_fits), using(crate::proofs::TestLaws::few))]
+#[tactic(auto, unfolding(engine_spec::specs::Refusals::index_fits), using(crate::proofs::Products::few))]
 fn index_fits(frames: usize, bands: usize, index: &Index<'_>) -> bool
     requires few_frames { frames < 2 ^ 16 }
     requires few_bands { bands < 2 ^ 16 }
@@ -77,7 +77,7 @@ fn check_lent(settings: Settings, index: &Index<'_>, clock: ClockMs) -> Result<(
 }
 
 // 11: bands, lengths that agree, and values that are finite and not negative.
-#[tactic(auto, unfolding(engine_spec::specs::Refusals::valid_window), using(crate::proofs::TestLaws::few))]
+#[tactic(auto, unfolding(engine_spec::specs::Refusals::valid_window), using(crate::proofs::Products::few))]
 fn is_valid_window(window: &Window<'_>) -> bool
     requires few_bands { window.now.bands ≤ bands_most }
     requires few_frames { length window.now.times ≤ window_most }
@@ -117,7 +117,7 @@ pub fn check_window(window: &Window<'_>) -> Result<(), Refusal>
 }
 
 // 13: by the window's bands and frames and the state's frames, a `u16`.
-#[tactic(auto, unfolding(engine_spec::specs::Refusals::work_fits), using(crate::proofs::TestLaws::few))]
+#[tactic(auto, unfolding(engine_spec::specs::Refusals::work_fits), using(crate::proofs::Products::few))]
 fn work_fits(
     bands: usize,
     frames: usize,

@@ -1,16 +1,17 @@
 -- What the definitions say by index, in std's list functions, as a chain of iterators is found. Assumes nothing.
 use mathlib.Core.Path.{◌≡◌, refl, sym, ap, ◌∙◌}
 use mathlib.Core.Bool.{Bool, true, false, cond, ◌&&◌}
-use mathlib.Core.List.{List, [], ◌∷◌}
+use mathlib.Core.List.{List, [], ◌∷◌, ◌++◌}
 use Prim.Native.Nat.{ℕ, zero, suc, ◌≤◌}
 use native.Mathlib.Numerals.{add-one}
 use native.Mathlib.Omega.{arith}
 use lib.Ieee.{Float, nan}
-use lib.ListN.{length, get_or, take}
+use lib.ListN.{length, get_or, take, replicate}
 use Rattle.std.specs.List.{list_all, count_by, fold}
+use Rattle.std.proofs.lemmas.List.{replicate-append-replicate}
 use Rattle.std.proofs.lemmas.List.Sums.{count_by_more_yes, count_by_more_no, fold_more}
 use Rattle.numbers_spec.specs.Arithmetic.{◌⊕◌, zero⁺}
-use Rattle.numbers_spec.specs.Rows.{all_to, every, sum_to, tally}
+use Rattle.numbers_spec.specs.Rows.{tabulate, all_to, every, sum_to, tally}
 
 and_true : (a : Bool) → a ≡ a && true
 and_true true = refl
@@ -53,3 +54,10 @@ sum_is_fold f l (suc n) h =
     ap (λ (s : Float). s ⊕ f (get_or l n nan)) (sum_is_fold f l n (omega arith))
     ∙ sym (fold_more (λ (s x : Float). s ⊕ f x) zero⁺ l n nan (omega arith))
     ∙ ap (λ (k : ℕ). fold (λ (s x : Float). s ⊕ f x) zero⁺ (take k l)) (add-one n)
+
+-- `fill`
+pub replicate_is : {A : Type 0} (x : A) (n : ℕ) → replicate n x ≡ tabulate (λ (i : ℕ). x) n
+unfolding tabulate
+replicate_is x zero = refl
+replicate_is x (suc n) =
+    sym (replicate-append-replicate n 1 x ∙ ap (λ (k : ℕ). replicate k x) (add-one n)) ∙ ap (λ l. l ++ x ∷ []) (replicate_is x n)

@@ -1,14 +1,19 @@
 // Fills a load.
-ghost use Rattle.std.specs.Prelude.{ℕ, ◌≤◌, ◌≡◌, length};
+ghost use Rattle.std.specs.Prelude.{◌≤◌, ◌≡◌, length};
+ghost use Rattle.std.specs.Result.{result_err};
 ghost use Rattle.numbers_spec.specs.Rows.{tabulate};
 ghost use Rattle.matcher_spec.specs.Limits.{frames_most};
 ghost use Rattle.engine_spec.specs.Lent.{window};
 ghost use Rattle.workload_spec.specs.Draws.{step};
-ghost use Rattle.workload_spec.specs.Load.{load_energy, load_time, load_value, value_at};
-ghost use Rattle.workload_spec.specs.Fill.{filling_of, slices_after};
+ghost use Rattle.workload_spec.specs.Load.{load_time, load_value, value_at};
+ghost use Rattle.workload_spec.specs.Fill.{load_refusal, slices_after};
 
-use crate::refusals::{filling_of, is_filled};
-use workload_spec::types::Filling;
+use crate::refusals::check_load;
+use engine_spec::lent::Window;
+use workload_spec::types::LoadRefusal;
+
+// Of every frame.
+const ENERGY: f64 = -20.0;
 
 // Fills the slices from the seed, wholly; where it refuses, they are as they were.
 pub fn fill(
@@ -18,18 +23,21 @@ pub fn fill(
     times: &mut [f64],
     energies: &mut [f64],
     values: &mut [f32],
-) -> Filling
-    ensures value { result ≡ filling_of seed hop (window bands times.old energies.old values.old) }
+) -> Result<(), LoadRefusal>
+    ensures value { result_err result ≡ load_refusal seed hop (window bands times.old energies.old values.old) }
     ensures slices { window bands times.new energies.new values.new ≡ slices_after seed hop (window bands times.old energies.old values.old) }
 {
-    let filling = filling_of(seed, hop, bands, times, energies, values);
-    if !is_filled(filling) {
-        return filling;
-    }
+    let lent = Window {
+        bands,
+        times,
+        energies,
+        values,
+    };
+    check_load(seed, hop, &lent)?;
     fill_times(times, hop);
-    fill_energies(energies);
+    energies.fill(ENERGY);
     fill_values(values, seed);
-    filling
+    Ok(())
 }
 
 // i * hop of each frame: one product, and no sum that would carry an error on. So few frames are
@@ -38,20 +46,8 @@ fn fill_times(times: &mut [f64], hop: f64)
     requires { length times.old ≤ frames_most }
     ensures { times.new ≡ tabulate (load_time hop) (length times.old) }
 {
-    let mut i = 0usize;
-    while i < times.len() {
-        times[i] = i as f64 * hop;
-        i += 1;
-    }
-}
-
-fn fill_energies(energies: &mut [f64])
-    ensures { energies.new ≡ tabulate (λ (i : ℕ). load_energy) (length energies.old) }
-{
-    let mut i = 0usize;
-    while i < energies.len() {
-        energies[i] = -20.0;
-        i += 1;
+    for (i, time) in times.iter_mut().enumerate() {
+        *time = i as f64 * hop;
     }
 }
 
@@ -60,16 +56,15 @@ fn fill_values(values: &mut [f32], seed: u64)
     ensures { values.new ≡ tabulate (value_at seed) (length values.old) }
 {
     let mut x = seed;
-    let mut k = 0usize;
-    while k < values.len() {
+    for value in values.iter_mut() {
         let drawn = step(x);
-        values[k] = value_of(drawn);
+        *value = value_of(drawn);
         x = drawn;
-        k += 1;
     }
 }
 
 // Marsaglia's xorshift, one step.
+#[tactic(auto, unfolding(workload_spec::specs::Draws::step))]
 fn step(x: u64) -> u64
     ensures { result ≡ step x }
 {

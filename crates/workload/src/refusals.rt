@@ -1,62 +1,50 @@
 // What filling a load refuses.
-ghost use Rattle.std.specs.Prelude.{◌≡◌};
-ghost use Rattle.engine_spec.specs.Lent.{window};
-ghost use Rattle.workload_spec.specs.Fill.{filling_number, filling_of, is_filled};
+ghost use Rattle.std.specs.Prelude.{◌≤◌, OnOk, length, ◌≡◌};
+ghost use Rattle.std.specs.Result.{result_err};
+ghost use Rattle.matcher_spec.specs.Limits.{frames_most};
+ghost use Rattle.workload_spec.specs.Fill.{load_number, load_refusal};
 
 use engine_refusals::ranges::is_hop;
 use engine_refusals::refusals::number_of;
 use engine_refusals::states::are_counts;
+use engine_spec::lent::Window;
 use engine_spec::types::Refusal;
-use workload_spec::types::Filling;
+use workload_spec::types::LoadRefusal;
 
 // 16, 2, 3 and 4, in this order. Sizes are tested before any product of them.
-pub fn filling_of(
-    seed: u64,
-    hop: f64,
-    bands: usize,
-    times: &[f64],
-    energies: &[f64],
-    values: &[f32],
-) -> Filling
-    ensures { result ≡ filling_of seed hop (window bands times.now energies.now values.now) }
+#[tactic(auto, unfolding(workload_spec::specs::Fill::load_refusal), using(engine_refusals::proofs::Products::few))]
+pub fn check_load(seed: u64, hop: f64, lent: &Window<'_>) -> Result<(), LoadRefusal>
+    ensures value { result_err result ≡ load_refusal seed hop lent.now }
+    ensures few_frames { OnOk result (length lent.now.times ≤ frames_most) }
 {
-    let n = times.len();
-    let seeded = 0 < seed;
-    let timed = is_hop(hop);
-    if !seeded {
-        return Filling::SeedZero;
+    let n = lent.times.len();
+    if seed == 0 {
+        return Err(LoadRefusal::SeedZero);
     }
-    if !timed {
-        return Filling::HopOutOfRange;
+    if !is_hop(hop) {
+        return Err(LoadRefusal::HopOutOfRange);
     }
-    if !are_counts(n, bands) {
-        return Filling::TooLarge;
+    if !are_counts(n, lent.bands) {
+        return Err(LoadRefusal::TooLarge);
     }
-    if energies.len() != n {
-        return Filling::Miscounted;
+    if lent.energies.len() != n {
+        return Err(LoadRefusal::Miscounted);
     }
-    if values.len() != bands * n {
-        return Filling::Miscounted;
+    if lent.values.len() != lent.bands * n {
+        return Err(LoadRefusal::Miscounted);
     }
-    Filling::Filled
+    Ok(())
 }
 
 // The number of document 02; what opening refuses too has opening's.
-pub fn filling_number(f: Filling) -> u32
-    ensures { result ≡ filling_number f }
+#[tactic(auto, unfolding(workload_spec::specs::Fill::load_number))]
+pub fn load_number(r: LoadRefusal) -> u32
+    ensures { result ≡ load_number r }
 {
-    match f {
-        Filling::Filled => 0,
-        Filling::SeedZero => 16,
-        Filling::HopOutOfRange => number_of(Refusal::HopOutOfRange),
-        Filling::TooLarge => number_of(Refusal::ReferenceTooLarge),
-        Filling::Miscounted => number_of(Refusal::ReferenceMiscounted),
+    match r {
+        LoadRefusal::SeedZero => 16,
+        LoadRefusal::HopOutOfRange => number_of(Refusal::HopOutOfRange),
+        LoadRefusal::TooLarge => number_of(Refusal::ReferenceTooLarge),
+        LoadRefusal::Miscounted => number_of(Refusal::ReferenceMiscounted),
     }
-}
-
-// Whatever has no number.
-pub fn is_filled(f: Filling) -> bool
-    ensures { result ≡ is_filled f }
-{
-    filling_number(f) == 0
 }

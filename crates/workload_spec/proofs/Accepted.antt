@@ -11,6 +11,8 @@ use lib.IntN.{pos}
 use lib.ListN.{length}
 use lib.Ieee.{Float, nan, fin, le, lt, eq, neg, odd, of_bits, of_fields}
 use lib.Ieee.Scale.{finite}
+use Rattle.std.specs.Prelude.{Option, None}
+use Rattle.std.specs.Option.{option_map_or}
 use Rattle.numbers_spec.specs.Arithmetic.{magnitude}
 use Rattle.numbers_spec.specs.Rows.{tabulate, every}
 use Rattle.numbers_spec.proofs.Order.{le_transitive, at_most_between}
@@ -21,13 +23,12 @@ use Rattle.matcher_spec.specs.Index.{Index, accepts_reference}
 use Rattle.matcher_spec.specs.Limits.{frames_most, window_most, bands_most, farthest_ms}
 use Rattle.matcher_spec.specs.Timeline.{valid_value, valid_values, regular}
 use Rattle.engine_spec.specs.Opening.{opening, accepts_features, with_index, without_index, no_engine, fresh_engine, opened_settings}
-use Rattle.engine_spec.specs.Refusals.{number_of, refuses, near, near_or_not_finite, hop_in_range, counts_in_range, index_fits, valid_configuration, opening_refusal, valid_window, valid_energy, window_refusal}
+use Rattle.engine_spec.specs.Refusals.{near, near_or_not_finite, hop_in_range, counts_in_range, index_fits, valid_configuration, opening_refusal, valid_window, valid_energy, window_refusal}
 use Rattle.engine_spec.specs.Windows.{query, indexed}
 use Rattle.engine_spec.specs.declared.types.Configuration.{Configuration}
-use Rattle.engine_spec.specs.declared.types.OpenResult.{OpenResult}
-use Rattle.engine_spec.specs.declared.types.Answer.TheVariants as answer
+use Rattle.engine_spec.specs.Results.{OpenResult}
+use Rattle.engine_spec.specs.Results as answer
 use Rattle.engine_spec.specs.declared.types.Refusal.{Refusal}
-use Rattle.engine_spec.specs.declared.types.Refusal.TheVariants as refusal
 use Rattle.engine_spec.proofs.Tests.{and_i, or_r, T-is}
 use Rattle.workload_spec.specs.Load.{load_time, load_energy, value_at, load}
 use Rattle.workload_spec.specs.LoadLaws.{Hop, Searchable, LoadOpens, LoadHeard}
@@ -72,7 +73,7 @@ module _ (seed : ℕ) (hop : Float) (bands frames : ℕ) (c : Configuration) (x 
   abbrev reference : Features
   reference = query (load seed hop bands frames)
 
-  unrefused : opening_refusal c hop reference x ≡ refusal.None
+  unrefused : opening_refusal c hop reference x ≡ None
   unfolding opening_refusal load
   unrefused =
       let n = length_tabulate (load_time hop) frames in
@@ -86,8 +87,9 @@ module _ (seed : ℕ) (hop : Float) (bands frames : ℕ) (c : Configuration) (x 
       )
 
   opened_is : opening c hop reference x ≡ record { answer = answer.Opened; engine = fresh_engine c (opened_settings hop reference) }
-  unfolding opening number_of
-  opened_is = ap (λ (r : Refusal). cond (refuses r) (record { answer = answer.Refused r; engine = no_engine }) (record { answer = answer.Opened; engine = fresh_engine c (opened_settings hop reference) })) unrefused
+  unfolding opening
+  opened_is =
+      ap (λ (o : Option Refusal). option_map_or (λ (r : Refusal). record { answer = answer.Refused r; engine = no_engine }) o (record { answer = answer.Opened; engine = fresh_engine c (opened_settings hop reference) })) unrefused
 
   has_index : T (indexed (opened_settings hop reference))
   unfolding load

@@ -5,3 +5,4 @@ pub mod Values
 pub mod Times
 pub mod Regular
 pub mod Accepted
+pub mod Filled

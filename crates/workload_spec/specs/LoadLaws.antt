@@ -1,5 +1,5 @@
 -- What is proved of every load. Definitions only.
-use Rattle.std.specs.Prelude.{ℕ, ◌+◌, ◌*◌, ◌%◌, ◌^◌, ◌≤◌, ◌<◌, false, ◌≡◌, T, Float}
+use Rattle.std.specs.Prelude.{ℕ, ◌+◌, ◌*◌, ◌%◌, ◌^◌, ◌≤◌, ◌<◌, false, ◌≡◌, T, eqb, Float, Option, None, is_none}
 use Rattle.std.specs.Float.{binary64}
 use Rattle.std.specs.Float.Ieee.{fits}
 use Rattle.std.specs.Float.Ieee.Exact.{HasValue}
@@ -11,10 +11,11 @@ use Rattle.engine_spec.specs.Opening.{opening}
 use Rattle.engine_spec.specs.Refusals.{hop_in_range, index_fits, valid_configuration, window_refusal}
 use Rattle.engine_spec.specs.Windows.{query, indexed}
 use Rattle.engine_spec.specs.declared.types.Configuration.{Configuration}
-use Rattle.engine_spec.specs.declared.types.Answer.TheVariants as answer
-use Rattle.engine_spec.specs.declared.types.Refusal.TheVariants as refusal
+use Rattle.engine_spec.specs.Results as answer
 use Rattle.workload_spec.specs.Draws.{drawn}
 use Rattle.workload_spec.specs.Load.{load_value, value_at, load}
+use Rattle.workload_spec.specs.Fill.{filling_number}
+use Rattle.workload_spec.specs.declared.types.LoadRefusal.{LoadRefusal}
 
 -- ---- what is drawn
 -- No draw leaves 64 bits, and from a seed above 0 none is 0.
@@ -65,4 +66,9 @@ LoadOpens =
 abbrev pub LoadHeard : Type 0
 LoadHeard =
     (seed : ℕ) (hop : Float) (bands frames : ℕ) → Hop hop → 1 ≤ frames → frames ≤ window_most → 1 ≤ bands → bands ≤ bands_most
-    → window_refusal (load seed hop bands frames) ≡ refusal.None
+    → window_refusal (load seed hop bands frames) ≡ None
+
+-- ---- what is refused
+-- The number tells a load that is filled from one that is refused.
+abbrev pub FilledByNumber : Type 0
+FilledByNumber = (r : Option LoadRefusal) → is_none r ≡ eqb (filling_number r) 0

@@ -1,7 +1,6 @@
-// What filling a load answers.
-#[derive(Clone, Copy)]
-pub enum Filling {
-    Filled,
+// Why a load is not filled.
+#[derive(Clone, Copy, Debug, PartialEq, Eq)]
+pub enum LoadRefusal {
     SeedZero,
     HopOutOfRange,
     TooLarge,

@@ -1,19 +1,16 @@
 -- `workload::load::fill` meets its contract. Assumes nothing.
-use mathlib.Core.Path.{sym, ◌∙◌}
-use borrow.Author.Tests.{not-true, not-false}
-use Rattle.workload.proofs.FillLaws.{as_it_was, few_frames, all_written}
+use lib.Ieee.{of_bits, neg}
+use Rattle.std.proofs.Common.{◌≡◌, ◌∙◌, length, replicate}
+use Rattle.numbers_spec.proofs.ChainLaws.{replicate_is}
+use Rattle.workload_spec.specs.Load.{load_energy}
+use Rattle.workload.proofs.FillLaws.{as_it_was, all_written}
 use Rattle.workload.proofs.load.fill.Goals as goal
 
-pub returns-then-not-is_filled : goal.returns-then-not-is_filled
-returns-then-not-is_filled c =
-    let told = c.filling_of-filling.ensures in
-    record { value = told; slices = as_it_was _ _ _ told (sym c.is_filled.ensures ∙ not-true c.is_filled.result c.if-not-is_filled.true-raw) }
+pub returns-in_err-check_load-clause-slices : goal.returns-in_err-check_load-clause-slices
+returns-in_err-check_load-clause-slices c = as_it_was _ _ _ c.in_err-check_load.ensures.value
 
-pub fill_times-requires : goal.fill_times-requires
-fill_times-requires c =
-    few_frames _ _ _ c.filling_of-filling.ensures (sym c.is_filled.ensures ∙ not-false c.is_filled.result c.if-not-is_filled.false-raw)
-
-pub returns : goal.returns
-returns c =
-    let told = c.filling_of-filling.ensures in
-    let yes = sym c.is_filled.ensures ∙ not-false c.is_filled.result c.if-not-is_filled.false-raw in record { value = told; slices = all_written _ _ _ told yes c.fill_times.ensures c.fill_energies.ensures c.fill_values.ensures }
+pub returns-clause-slices : goal.returns-clause-slices
+unfolding of_bits neg
+returns-clause-slices c =
+    let energies : c.fill.new.self ≡ replicate (length c.args.energies.now) load_energy = c.fill.ensures.after (λ y e. e) in
+    all_written _ _ _ c.in_ok-check_load.ensures.value c.fill_times.ensures (energies ∙ replicate_is load_energy (length c.args.energies.now)) c.fill_values.ensures

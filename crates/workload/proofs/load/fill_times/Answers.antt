@@ -1,24 +1,22 @@
-use mathlib.Core.Path.{refl}
-use native.Mathlib.Omega.{arith}
 use lib.Dec.{le→leb}
 use lib.Ieee.{in_float}
-use Rattle.numbers_spec.proofs.RowLaws.{filling_none, filling_more, filling_all}
+use Rattle.std.proofs.Common.{◌≡◌, refl, length, arith}
+use Rattle.numbers_spec.proofs.RowLaws.{filled_none, filled_more, filled_all}
 use Rattle.workload_spec.specs.Load.{load_time}
 use Rattle.workload.proofs.load.fill_times.Goals as goal
 
 pub loop-i-init : goal.loop-i-init
-loop-i-init c = filling_none _ _
+loop-i-init c = filled_none _ _
 
-pub int_to_float-times : goal.int_to_float-times
+pub int_to_float-time : goal.int_to_float-time
 unfolding in_float
-int_to_float-times c = le→leb c.loop-i.i 9007199254740992 (omega arith)
+int_to_float-time c = le→leb c.loop-i.i 9007199254740992 (omega arith)
 
 pub loop-i-preserved : goal.loop-i-preserved
 unfolding load_time
-loop-i-preserved c = filling_more c.loop-i.invariant refl (omega arith)
-
-pub shape_of-times : goal.shape_of-times
-shape_of-times c = c.loop-i.invariant.size
+loop-i-preserved c = filled_more (load_time c.args.hop) c.args.times.now c.loop-i.i c.loop-i.invariant refl (omega arith)
 
 pub returns : goal.returns
-returns c = filling_all c.loop-i.invariant (omega arith)
+returns c =
+    let e : c.loop-i.i ≡ length c.args.times.now = omega arith in
+    filled_all (load_time c.args.hop) c.args.times.now (rw e at c.loop-i.invariant)
