@@ -29,7 +29,6 @@ impl Replayed for Matcher {
 
     const LINE: usize = 14 * SPACED;
 
-    #[tactic(auto, unfolding(crate::specs::Agreement::agrees_of))]
     fn agrees(&mut self, line: &[u8]) -> bool {
         let case = Case::of(line);
         case.is_small() && answers::says(line, answers::answers_to(case))
