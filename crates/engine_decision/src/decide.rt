@@ -17,6 +17,7 @@ use matcher_spec::lent::Index;
 
 // Readiness first; a window that is ready is searched. A whole search that is due is made where it is
 // granted.
+#[tactic(auto, unfolding(engine_spec::specs::Publishing::decide))]
 pub fn decide(
     granted: bool,
     configuration: Configuration,

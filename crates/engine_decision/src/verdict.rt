@@ -57,6 +57,7 @@ pub fn unready(settings: Settings, reached: Reached, lock: Lock, reason: Withhol
 }
 
 // A track is shown as long as it may coast.
+#[tactic(auto, unfolding(engine_spec::specs::Publishing::verdict_of))]
 pub fn verdict_of(accepted: Option<Hypothesis>, now: RecordedMs, s: &Searched) -> Verdict
     ensures { result ≡ verdict_of accepted now (searched_in s.now) }
 {

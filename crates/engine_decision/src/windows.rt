@@ -23,10 +23,10 @@ pub fn is_reread(settings: Settings, last: Last, window: &Window<'_>) -> bool
     requires { 0 < length window.now.times }
     ensures { result ≡ (last.has_snapshot && rereads settings last.endpoint_ms window.now) }
 {
-    last.has_snapshot
-        && last
-            .endpoint_ms
-            .is_some_and(|endpoint| rereads_from(settings, endpoint, window))
+    match last.endpoint_ms {
+        Some(endpoint) => last.has_snapshot && rereads_from(settings, endpoint, window),
+        None => false,
+    }
 }
 
 // The lock that a window starts from: none after a jump.
@@ -42,6 +42,7 @@ pub fn lock_from(engine: Engine, window: &Window<'_>) -> Lock
 
 // An endpoint less than 90 past the last computed one, and no jump. The timeline is looked at last,
 // since most windows lie further on.
+#[tactic(auto, unfolding(engine_spec::specs::Windows::rereads_from))]
 fn rereads_from(settings: Settings, last: RecordedMs, window: &Window<'_>) -> bool
     requires { 0 < length window.now.times }
     ensures { result ≡ rereads_from settings last window.now }
@@ -71,6 +72,7 @@ fn may_be_read_again(settings: Settings, window: &Window<'_>) -> bool
 }
 
 // An endpoint before the last computed one, or a start more than two hops past it.
+#[tactic(auto, unfolding(engine_spec::specs::Windows::jumps_from))]
 fn jumps_from(hop: f64, last: RecordedMs, window: &Window<'_>) -> bool
     requires { 0 < length window.now.times }
     ensures { result ≡ jumps_from hop last window.now }
@@ -85,6 +87,6 @@ pub fn no_lock() -> Lock
     Lock {
         pending: None,
         accepted: None,
-        last_global_search_ms: RecordedMs(-1.0 / 0.0),
+        last_global_search_ms: RecordedMs(f64::NEG_INFINITY),
     }
 }

@@ -1,7 +1,7 @@
 // Readiness: why a window cannot be searched.
 #![tactic(auto)]
 
-ghost use Rattle.std.specs.Prelude.{◌<◌, ◌≤◌, Float, length, count_by, fold, ◌≡◌};
+ghost use Rattle.std.specs.Prelude.{IfNone, ◌<◌, ◌≤◌, Float, length, count_by, fold, ◌≡◌};
 ghost use Rattle.std.specs.Float.Ieee.{le};
 ghost use Rattle.numbers_spec.specs.Arithmetic.{◌⊕◌, ◌⊘◌, zero⁺};
 ghost use Rattle.numbers_spec.specs.Exponential.{ten_to};
@@ -93,7 +93,8 @@ pub fn readiness(
 ) -> Option<WithholdReason>
     requires heard { 0 < length window.now.times }
     requires measured { length window.now.times ≤ length window.now.energies }
-    ensures { result ≡ readiness configuration settings confirmed window.now }
+    ensures value { result ≡ readiness configuration settings confirmed window.now }
+    ensures indexed { IfNone result (0 < settings.reference_frames) }
 {
     let n = window.times.len();
     let bands = settings.reference_bands as usize;

@@ -1,5 +1,6 @@
 // The candidates as a snapshot shows them.
-ghost use Rattle.std.specs.Prelude.{◌<◌, length, ◌≡◌};
+ghost use Rattle.std.specs.Prelude.{◌<◌, ◌≤◌, length, ◌≡◌};
+ghost use Rattle.matcher_spec.specs.Limits.{candidates_most};
 ghost use Rattle.engine_spec.specs.Opening.{blank_candidate};
 ghost use Rattle.engine_spec.specs.Publishing.{candidate_array, comparable_frames, coverage};
 ghost use Rattle.engine_spec.specs.Windows.{duration};
@@ -9,7 +10,7 @@ use engine_spec::thresholds::TRIMMED_MS;
 use engine_spec::types::CandidateDiagnostics;
 use matcher_bands::centring::context_frames;
 use matcher_spec::limits::CANDIDATES_MOST;
-use matcher_spec::types::MatchResult;
+use matcher_spec::types::Candidate;
 use numbers::float::at_least;
 use numbers::whole::count;
 
@@ -17,9 +18,10 @@ use numbers::whole::count;
 pub fn candidate_array(
     comparable: usize,
     coverage: f64,
-    found: &MatchResult,
+    found: &[Candidate],
 ) -> [CandidateDiagnostics; CANDIDATES_MOST]
-    ensures { result ≡ candidate_array comparable coverage found.now.items }
+    requires { length found.now ≤ candidates_most }
+    ensures { result ≡ candidate_array comparable coverage found.now }
 {
     let mut rows = [blank_candidate(); CANDIDATES_MOST];
     for (i, c) in found.iter().enumerate() {

@@ -14,7 +14,7 @@ use engine_readiness::active_fraction;
 use engine_spec::lent::Window;
 use engine_spec::types::{Configuration, Diagnostics, Hypothesis, State};
 use matcher_picks::candidates::margin;
-use matcher_spec::types::MatchResult;
+use matcher_spec::types::Candidate;
 
 // All diagnostics. The track is counted as it stands after the window.
 pub fn diagnostics_of(
@@ -75,8 +75,8 @@ fn track_count(track: Option<Hypothesis>) -> usize
 }
 
 // The margin of a whole search, or 0.
-fn dense_margin(global: bool, found: &MatchResult) -> f64
-    ensures { result ≡ cond global (margin_of found.now.items) zero⁺ }
+fn dense_margin(global: bool, found: &[Candidate]) -> f64
+    ensures { result ≡ cond global (margin_of found.now) zero⁺ }
 {
     if global {
         return margin(found);
@@ -85,6 +85,7 @@ fn dense_margin(global: bool, found: &MatchResult) -> f64
 }
 
 // Whether a track is shown.
+#[tactic(auto, unfolding(engine_spec::specs::Cases::is_publishing))]
 pub fn is_publishing(s: State) -> bool
     ensures { result ≡ is_publishing s }
 {

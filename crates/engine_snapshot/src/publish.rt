@@ -17,6 +17,7 @@ use engine_spec::types::{
 };
 
 // The one place where a snapshot is made of a decision; the milestones' readings are as given.
+#[tactic(auto, unfolding(engine_spec::specs::Publishing::publish))]
 pub fn publish(
     configuration: Configuration,
     hop: f64,
@@ -45,6 +46,7 @@ pub fn publish(
 }
 
 // The furthest milestone that is there.
+#[tactic(auto, unfolding(engine_spec::specs::Publishing::phase_of))]
 fn phase_of(k: Reached) -> LockPhase
     ensures { result ≡ phase_of k }
 {
@@ -61,6 +63,7 @@ fn phase_of(k: Reached) -> LockPhase
 }
 
 // Tracking where a track is shown, else by whether a whole search was made.
+#[tactic(auto, unfolding(engine_spec::specs::Publishing::stage_of))]
 fn stage_of(s: State, global: bool) -> Stage
     ensures { result ≡ stage_of s global }
 {
@@ -115,6 +118,7 @@ fn track_correlation(track: Option<Hypothesis>) -> f64
 }
 
 // `clamp`, which keeps -0.0.
+#[tactic(auto, unfolding(engine_spec::specs::Publishing::between_zero_and_one))]
 fn between_zero_and_one(x: f64) -> f64
     ensures { result ≡ between_zero_and_one x }
 {

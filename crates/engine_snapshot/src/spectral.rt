@@ -6,10 +6,9 @@ ghost use Rattle.engine_spec.specs.Publishing.{fresh_evidence, of_best, spectral
 ghost use Rattle.engine_decision.specs.Decided.{decision_in};
 
 use engine_decision::kinds::Decision;
-use engine_lock::track::best_of;
 use engine_spec::types::{Hypothesis, SpectralDiagnostics};
 use matcher_picks::candidates::margin;
-use matcher_spec::types::{Candidate, MatchResult};
+use matcher_spec::types::Candidate;
 use numbers::float::at_least;
 
 // The best candidate's correlations, the margin of a whole search, pending's evidence, the coast.
@@ -30,13 +29,14 @@ pub fn spectral_of(d: &Decision) -> SpectralDiagnostics
 }
 
 // The best candidate, or one of zeros.
-pub fn best_or_blank(found: &MatchResult) -> Candidate
-    ensures { (result.score ≡ of_best (λ (c : Candidate). c.score) found.now.items) × (result.first_half_score ≡ of_best (λ (c : Candidate). c.first_half_score) found.now.items) × (result.second_half_score ≡ of_best (λ (c : Candidate). c.second_half_score) found.now.items) × (result.recent_score ≡ of_best (λ (c : Candidate). c.recent_score) found.now.items) }
+pub fn best_or_blank(found: &[Candidate]) -> Candidate
+    ensures { (result.score ≡ of_best (λ (c : Candidate). c.score) found.now) × (result.first_half_score ≡ of_best (λ (c : Candidate). c.first_half_score) found.now) × (result.second_half_score ≡ of_best (λ (c : Candidate). c.second_half_score) found.now) × (result.recent_score ≡ of_best (λ (c : Candidate). c.recent_score) found.now) }
 {
-    best_of(found).unwrap_or_default()
+    found.first().copied().unwrap_or_default()
 }
 
 // How long the evidence for pending spans.
+#[tactic(auto, unfolding(engine_spec::specs::Publishing::fresh_evidence))]
 fn fresh_evidence(pending: Option<Hypothesis>) -> f64
     ensures { result ≡ fresh_evidence pending }
 {
@@ -47,8 +47,8 @@ fn fresh_evidence(pending: Option<Hypothesis>) -> f64
 }
 
 // Only a whole search has a competing peak.
-fn margin_if(global: bool, found: &MatchResult) -> Option<f64>
-    ensures { result ≡ cond global (Some (margin_of found.now.items)) None }
+fn margin_if(global: bool, found: &[Candidate]) -> Option<f64>
+    ensures { result ≡ cond global (Some (margin_of found.now)) None }
 {
     global.then(|| margin(found))
 }
