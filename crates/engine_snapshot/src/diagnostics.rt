@@ -45,6 +45,7 @@ pub fn diagnostics_of(
 }
 
 // The magnitude of a number that may be missing.
+#[tactic(auto, unfolding(engine_spec::specs::Publishing::magnitude_of))]
 fn magnitude_of(m: Option<f64>) -> Option<f64>
     ensures { result ≡ magnitude_of m }
 {
