@@ -14,6 +14,7 @@ use engine_spec::types::{
 };
 
 // A re-reading: the last snapshot shown again. The engine stays as it is.
+#[tactic(auto, unfolding(engine_spec::specs::Submitting::reread))]
 pub fn reread(engine: Engine, endpoint: RecordedMs) -> Submitted
     ensures { Ok result ≡ submitted (reread engine endpoint) }
 {
@@ -26,6 +27,7 @@ pub fn reread(engine: Engine, endpoint: RecordedMs) -> Submitted
 }
 
 // A snapshot with its estimate moved to this endpoint, and with the engine's own milestones.
+#[tactic(auto, unfolding(engine_spec::specs::Submitting::shown_again))]
 fn shown_again(endpoint: RecordedMs, milestones: Milestones, snapshot: Snapshot) -> Snapshot
     ensures { result ≡ shown_again endpoint milestones snapshot }
 {
@@ -39,6 +41,7 @@ fn shown_again(endpoint: RecordedMs, milestones: Milestones, snapshot: Snapshot)
 }
 
 // An estimate moved to another endpoint.
+#[tactic(auto, unfolding(engine_spec::specs::Submitting::moved))]
 fn moved(endpoint: RecordedMs, old: Option<Estimate>) -> Option<Estimate>
     ensures { result ≡ moved endpoint old }
 {
@@ -46,6 +49,7 @@ fn moved(endpoint: RecordedMs, old: Option<Estimate>) -> Option<Estimate>
 }
 
 // A computed answer, and the one place where the next engine is made.
+#[tactic(auto, unfolding(engine_spec::specs::Submitting::computed_from))]
 pub fn computed_from(engine: Engine, window: &Window<'_>, clock: ClockMs, d: &Decision) -> Submitted
     requires some_frames { 0 < length window.now.times }
     requires energies { length window.now.times ≤ length window.now.energies }

@@ -1,8 +1,7 @@
 // A fresh engine, and what stands where there is none.
-ghost use Rattle.std.specs.Prelude.{◌<◌, ◌≤◌, length, [], ◌≡◌};
-ghost use Rattle.engine_spec.specs.Opening.{blank_snapshot, fresh_engine, no_engine, with_index, without_index};
+ghost use Rattle.std.specs.Prelude.{◌<◌, ◌≤◌, length, ◌≡◌};
+ghost use Rattle.engine_spec.specs.Opening.{blank_snapshot, fresh_engine, with_index, without_index};
 ghost use Rattle.engine_spec.specs.Milestones.{no_milestones};
-ghost use Rattle.matcher_spec.specs.Features.{features};
 ghost use Rattle.matcher_spec.specs.Limits.{frames_most, bands_most};
 
 use engine_decision::windows::no_lock;
@@ -11,9 +10,11 @@ use engine_spec::types::{
     Configuration, Diagnostics, Engine, Last, LockPhase, Milestones, ReferenceMs, Settings, Snapshot,
     SpectralDiagnostics, Stage, State,
 };
+use matcher_spec::lent::Features;
 use matcher_spec::limits::CANDIDATES_MOST;
 
 // No endpoint, snapshot, place or milestone.
+#[tactic(auto, unfolding(engine_spec::specs::Opening::fresh_engine))]
 pub fn fresh_engine(configuration: Configuration, settings: Settings) -> Engine
     ensures { result ≡ fresh_engine configuration settings }
 {
@@ -58,6 +59,7 @@ pub fn without_index(hop: f64) -> Settings
 }
 
 // A snapshot of nothing, where a value has to stand and there is no snapshot.
+#[tactic(auto, unfolding(engine_spec::specs::Opening::blank_snapshot))]
 pub fn blank_snapshot() -> Snapshot
     ensures { result ≡ blank_snapshot }
 {
@@ -77,6 +79,7 @@ pub fn blank_snapshot() -> Snapshot
 }
 
 // Its diagnostics.
+#[tactic(auto, unfolding(engine_spec::specs::Opening::blank_snapshot))]
 fn blank_diagnostics() -> Diagnostics
     ensures { result ≡ blank_snapshot.diagnostics }
 {
@@ -99,6 +102,7 @@ fn blank_diagnostics() -> Diagnostics
 }
 
 // What it shows of a search.
+#[tactic(auto, unfolding(engine_spec::specs::Opening::blank_snapshot))]
 fn blank_spectral() -> SpectralDiagnostics
     ensures { result ≡ blank_snapshot.diagnostics.spectral }
 {

@@ -5,6 +5,7 @@ ghost use Rattle.engine_spec.specs.Milestones.{reached_by, stamp, stamped_once, 
 use engine_spec::types::{ClockMs, Milestones, Reached};
 
 // Which milestones are there: all that a decision knows of them.
+#[tactic(auto, unfolding(engine_spec::specs::Milestones::reached_by))]
 pub fn reached_by(m: Milestones) -> Reached
     ensures { result ≡ reached_by m }
 {
@@ -16,6 +17,7 @@ pub fn reached_by(m: Milestones) -> Reached
 }
 
 // The one place where a clock reading is written.
+#[tactic(auto, unfolding(engine_spec::specs::Milestones::stamp))]
 pub fn stamp(m: Milestones, k: Reached, clock: ClockMs) -> Milestones
     ensures { result ≡ stamp m k clock }
 {
@@ -27,6 +29,7 @@ pub fn stamp(m: Milestones, k: Reached, clock: ClockMs) -> Milestones
 }
 
 // A milestone that is reached keeps its reading, or takes the clock's if it has none.
+#[tactic(auto, unfolding(engine_spec::specs::Milestones::stamped_once))]
 fn stamped_once(there: bool, old: Option<ClockMs>, clock: ClockMs) -> Option<ClockMs>
     ensures { result ≡ stamped_once there old clock }
 {
@@ -38,6 +41,7 @@ fn stamped_once(there: bool, old: Option<ClockMs>, clock: ClockMs) -> Option<Clo
 
 // Confirmed takes the clock's reading together with final, even where it has one: only a state made
 // by a caller has it before.
+#[tactic(auto, unfolding(engine_spec::specs::Milestones::stamped_with_final))]
 fn stamped_with_final(
     reached: bool,
     last: Option<ClockMs>,
