@@ -1,12 +1,13 @@
 -- Opening by its cases. Assumes nothing.
 use Prim.Native.Nat.{ℕ, ◌-◌, ◌<◌, suc}
 use native.Mathlib.Omega.{arith}
-use mathlib.Core.Bool.{Bool, true, false, cond, not, ◌&&◌}
+use mathlib.Core.Bool.{Bool, true, false, not, ◌&&◌}
 use mathlib.Core.List.{List}
 use mathlib.Core.Path.{◌≡◌, sym, ap, subst, ◌∙◌}
 use lib.Dec.{T, ltb, ltb→lt}
 use lib.ListN.{length, get_or}
 use lib.Ieee.{Float, nan, lt}
+use Rattle.std.specs.Prelude.{Option, None, Some}
 use lib.Ieee.Scale.{finite}
 use Rattle.numbers_spec.specs.Arithmetic.{zero⁺}
 use Rattle.numbers_spec.specs.Rows.{all_to}
@@ -14,28 +15,14 @@ use Rattle.matcher_spec.specs.Timeline.{regular, on_time, valid_values}
 use Rattle.matcher_spec.specs.Index.{Index, accepts_reference, filled}
 use Rattle.matcher_spec.specs.Features.{Features}
 use Rattle.engine_spec.specs.Refusals.{refuses, opening_refusal}
-use Rattle.engine_spec.specs.Opening.{no_engine, fresh_engine, with_index, without_index, accepts_features, opening, fills, matcher_of_reference, opened_index}
+use Rattle.engine_spec.specs.Opening.{accepts_features, fills, matcher_of_reference, opened_index}
 use Rattle.engine_spec.specs.declared.types.Configuration.{Configuration}
-use Rattle.engine_spec.specs.declared.types.Settings.{Settings}
-use Rattle.engine_spec.specs.declared.types.Engine.{Engine}
-use Rattle.engine_spec.specs.declared.types.OpenResult.{OpenResult}
-use Rattle.engine_spec.specs.declared.types.Answer.TheVariants as answer
 use Rattle.engine_spec.specs.declared.types.Refusal.{Refusal}
 use Rattle.engine_spec.proofs.Tests.{and_l}
 
 module _ (c : Configuration) (hop : Float) (reference : Features) (x : Index) where
-  abbrev refusal : Refusal
+  abbrev refusal : Option Refusal
   refusal = opening_refusal c hop reference x
-
-  pub opening_refused : {r : Refusal} {e : Engine} → r ≡ refusal → e ≡ no_engine → refuses refusal ≡ true → ◌≡◌ {A = OpenResult} record { answer = answer.Refused r; engine = e } (opening c hop reference x)
-  unfolding opening
-  opening_refused q g p = rw p (λ i. record { answer = answer.Refused (q i); engine = g i })
-
-  pub opening_answered : {e : Engine} {s : Settings} {b : Bool} → refuses refusal ≡ false → b ≡ accepts_features hop reference → s ≡ cond b (with_index hop reference) (without_index hop) → e ≡ fresh_engine c s → ◌≡◌ {A = OpenResult} record { answer = answer.Opened; engine = e } (opening c hop reference x)
-  unfolding opening
-  opening_answered p y q g =
-      let settled = q ∙ ap (λ (z : Bool). cond z (with_index hop reference) (without_index hop)) y in
-      rw p (λ i. record { answer = answer.Opened; engine = (g ∙ ap (λ (s : Settings). fresh_engine c s) settled) i })
 
   -- the buffers
   filled_by : (flag : Bool) → fills c hop reference x ≡ flag → ◌≡◌ {A = Index} record {
@@ -52,17 +39,17 @@ module _ (c : Configuration) (hop : Float) (reference : Features) (x : Index) wh
     coarse_energy = filled (sym e i) (matcher_of_reference hop reference).coarse.energy x.coarse_energy;
   }
 
-  pub index_kept : refuses refusal ≡ true → x ≡ opened_index c hop reference x
+  pub index_kept : {r : Refusal} → refusal ≡ Some r → x ≡ opened_index c hop reference x
   unfolding fills
-  index_kept h = filled_by false (ap (λ (z : Bool). not z && accepts_features hop reference) h)
+  index_kept h = filled_by false (ap (λ (z : Option Refusal). not (refuses z) && accepts_features hop reference) h)
 
-  pub index_filled : refuses refusal ≡ false → {b : Bool} {f g k l : List Float} → b ≡ accepts_features hop reference
+  pub index_filled : refusal ≡ None → {b : Bool} {f g k l : List Float} → b ≡ accepts_features hop reference
       → f ≡ filled b (matcher_of_reference hop reference).fine.values x.fine → g ≡ filled b (matcher_of_reference hop reference).coarse.values x.coarse
       → k ≡ filled b (matcher_of_reference hop reference).fine.energy x.fine_energy → l ≡ filled b (matcher_of_reference hop reference).coarse.energy x.coarse_energy
       → ◌≡◌ {A = Index} record { fine = f; coarse = g; fine_energy = k; coarse_energy = l } (opened_index c hop reference x)
   unfolding fills
   index_filled h {b = b} y p q r t =
-      let e : fills c hop reference x ≡ b = ap (λ (z : Bool). not z && accepts_features hop reference) h ∙ sym y in
+      let e : fills c hop reference x ≡ b = ap (λ (z : Option Refusal). not (refuses z) && accepts_features hop reference) h ∙ sym y in
       (λ i. record { fine = p i; coarse = q i; fine_energy = r i; coarse_energy = t i }) ∙ filled_by b e
 
 pub accepted_frames : (hop : Float) (reference : Features) {b : Bool} → b ≡ accepts_features hop reference → b ≡ true → 0 < length reference.times

@@ -1,10 +1,11 @@
 -- What an opening or a submission that is not refused leaves to what follows: the bounds of all that is lent. Assumes nothing.
 use Prim.Native.Nat.{ℕ, ◌+◌, ◌*◌, ◌/◌, ◌≤◌}
-use mathlib.Core.Bool.{true, false, ◌&&◌}
+use mathlib.Core.Bool.{true, ◌&&◌}
 use mathlib.Core.Path.{◌≡◌}
 use lib.Dec.{T, ltb, leb, eqb, leb→le, eqb→eq}
 use lib.ListN.{length}
 use lib.Ieee.{Float, le}
+use Rattle.std.specs.Prelude.{None}
 use Rattle.numbers_spec.specs.Rows.{every}
 use Rattle.matcher_spec.specs.Centring.{wide_hop}
 use Rattle.matcher_spec.specs.Timeline.{valid_values}
@@ -12,7 +13,7 @@ use Rattle.matcher_spec.specs.Energy.{reduction}
 use Rattle.matcher_spec.specs.Features.{Features}
 use Rattle.matcher_spec.specs.Index.{Index}
 use Rattle.matcher_spec.specs.Limits.{hop_least, hop_most, frames_most, bands_most}
-use Rattle.engine_spec.specs.Refusals.{number_of, refuses, near, near_or_not_finite, valid_configuration, hop_in_range, counts_in_range, both_or_neither, index_fits, opening_refusal, valid_settings, valid_lock, valid_milestones, valid_last, valid_engine, valid_window, work_fits, handed_refusal, submission_refusal}
+use Rattle.engine_spec.specs.Refusals.{near, near_or_not_finite, valid_configuration, hop_in_range, counts_in_range, both_or_neither, index_fits, opening_refusal, valid_settings, valid_lock, valid_milestones, valid_last, valid_engine, valid_window, work_fits, handed_refusal, submission_refusal}
 use Rattle.engine_spec.specs.Room.{Room}
 use Rattle.engine_spec.specs.Windows.{Submission}
 use Rattle.engine_spec.specs.declared.types.Configuration.{Configuration}
@@ -66,17 +67,17 @@ pub record OpenRoom (hop : Float) (reference : Features) (x : Index) : Type 0 wh
   pub fine_energy_lem : reference.bands * (length reference.times + 1) ≤ length x.fine_energy
   pub coarse_energy_lem : reference.bands * (length reference.times / 4 + 1) ≤ length x.coarse_energy
 
-pub open_room : (c : Configuration) (hop : Float) (reference : Features) (x : Index) → refuses (opening_refusal c hop reference x) ≡ false → OpenRoom hop reference x
-unfolding opening_refusal number_of
+pub open_room : (c : Configuration) (hop : Float) (reference : Features) (x : Index) → opening_refusal c hop reference x ≡ None → OpenRoom hop reference x
+unfolding opening_refusal
 open_room c hop reference x e =
     let n = length reference.times in
     let b = reference.bands in
-    let p₁ = passed (valid_configuration c) refusal.InvalidConfiguration _ tt e in
-    let p₂ = passed (hop_in_range hop) refusal.HopOutOfRange _ tt p₁.on in
-    let p₃ = passed (counts_in_range n b) refusal.ReferenceTooLarge _ tt p₂.on in
-    let p₄ = passed (eqb (length reference.values) (b * n)) refusal.ReferenceMiscounted _ tt p₃.on in
-    let p₅ = passed (every near_or_not_finite reference.times) refusal.ReferenceTimeTooFar _ tt p₄.on in
-    let p₆ = passed (index_fits n b x) refusal.IndexTooShort _ tt p₅.on in
+    let p₁ = passed (valid_configuration c) refusal.InvalidConfiguration _ e in
+    let p₂ = passed (hop_in_range hop) refusal.HopOutOfRange _ p₁.on in
+    let p₃ = passed (counts_in_range n b) refusal.ReferenceTooLarge _ p₂.on in
+    let p₄ = passed (eqb (length reference.values) (b * n)) refusal.ReferenceMiscounted _ p₃.on in
+    let p₅ = passed (every near_or_not_finite reference.times) refusal.ReferenceTimeTooFar _ p₄.on in
+    let p₆ = passed (index_fits n b x) refusal.IndexTooShort _ p₅.on in
     let i = index_room n b x p₆.here in
     record {
       wide = wide hop p₂.here;
@@ -90,7 +91,7 @@ open_room c hop reference x e =
     }
 
 -- ---- a submission
-room_handed : (s : Settings) (i : Submission) → T (valid_settings s) → refuses (handed_refusal s i) ≡ false → Room s i.index i.window i.room32 i.room64
+room_handed : (s : Settings) (i : Submission) → T (valid_settings s) → handed_refusal s i ≡ None → Room s i.index i.window i.room32 i.room64
 unfolding valid_settings valid_window work_fits
 room_handed s i v e =
     let u = unrefused s i e in
@@ -130,9 +131,9 @@ room_handed s i v e =
       work64 = leb→le (3 * (w.bands * (n + 1)) + f) i.room64 (and_r fits32 fits64 u.work);
     }
 
-pub room : (e : Engine) (i : Submission) → refuses (submission_refusal e i) ≡ false → Room e.settings i.index i.window i.room32 i.room64
-unfolding submission_refusal number_of valid_engine
+pub room : (e : Engine) (i : Submission) → submission_refusal e i ≡ None → Room e.settings i.index i.window i.room32 i.room64
+unfolding submission_refusal valid_engine
 room e i h =
-    let p = passed (valid_engine e) refusal.StateOutOfRange _ tt h in
+    let p = passed (valid_engine e) refusal.StateOutOfRange _ h in
     let kept = valid_lock e.lock && (valid_milestones e.milestones && valid_last e.last) in
     room_handed e.settings i (and_l (valid_settings e.settings) kept (and_r (valid_configuration e.configuration) (valid_settings e.settings && kept) p.here)) p.on

@@ -3,6 +3,7 @@ ghost use Rattle.std.specs.Prelude.{◌<◌, ◌≤◌, length, cond, true, ◌�
 ghost use Rattle.engine_spec.specs.Opening.{opened_index, opening, with_index, without_index};
 ghost use Rattle.engine_spec.specs.Results.{opened};
 ghost use Rattle.matcher_spec.specs.Index.{lent};
+ghost use Rattle.numbers_spec.specs.Rows.{Every, F32};
 ghost use Rattle.engine_spec.specs.Guaranteed.{GuaranteedOf};
 ghost use Rattle.matcher_spec.specs.Limits.{bands_most, frames_most};
 
@@ -16,6 +17,7 @@ use matcher_spec::lent::{Features, Index};
 // band after band. A reference that the matcher rejects opens an engine without index, and nothing
 // is written either; else the four slices hold its index, and what lay behind it stays. All that is
 // promised of submissions to what was opened is `Guaranteed`.
+#[tactic(auto, unfolding(engine_spec::specs::Opening::opening))]
 pub fn open(
     configuration: Configuration,
     hop: f64,
@@ -36,6 +38,7 @@ pub fn open(
         coarse_energy,
     };
     check_opening(configuration, hop, reference, &index)?;
+    are_f32(reference.values);
     let accepted = fill_index(fine, coarse, fine_energy, coarse_energy, hop, reference);
     Ok(fresh_engine(
         configuration,
@@ -55,4 +58,11 @@ fn opened_settings(accepted: bool, hop: f64, reference: &Features<'_>) -> Settin
     } else {
         without_index(hop)
     }
+}
+
+// A slice of f32 holds no other numbers, which the guarantee asks of a reference's values.
+pub fn are_f32(values: &[f32])
+    ensures { Every F32 values.now }
+{
+    let _ = values;
 }
