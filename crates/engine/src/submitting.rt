@@ -10,6 +10,7 @@ use engine_answers::answers::{computed_from, reread};
 use engine_answers::milestones::reached_by;
 use engine_decision::decide::decide;
 use engine_decision::windows::{endpoint_of, is_reread, lock_from};
+use engine_opening::opening::are_f32;
 use engine_refusals::handed::check_submission;
 use engine_spec::lent::Window;
 use engine_spec::types::{ClockMs, Engine, Refusal, Submitted};
@@ -19,6 +20,7 @@ use matcher_spec::lent::Index;
 // `open` gave; the index is as `open` filled it. A refusal writes nothing. What the working slices
 // held does not matter, and what they hold then is free. That the values are f32 is said for whoever
 // applies `open`'s guarantee to a list of calls.
+#[tactic(auto, unfolding(engine_spec::specs::Submitting::submit))]
 pub fn submit(
     engine: Engine,
     index: &Index<'_>,
@@ -32,11 +34,13 @@ pub fn submit(
     ensures lengths { (length work32.new ≡ length work32.old) × (length work64.new ≡ length work64.old) }
     ensures held { Every F32 window.now.values }
 {
+    are_f32(window.values);
     check_submission(engine, index, window, clock, work32.len(), work64.len())?;
     Ok(answered(engine, index, window, clock, work32, work64))
 }
 
 // A submission that is not refused: the last snapshot again, or a computed one.
+#[tactic(auto, unfolding(engine_spec::specs::Submitting::answered_from, engine_spec::specs::Submitting::decision_on))]
 fn answered(
     engine: Engine,
     index: &Index<'_>,

@@ -8,6 +8,7 @@ use engine_spec::types::{Engine, Refusal, Snapshot, State};
 
 // The coast of the last computed answer, where that was Locked; nothing else is an age. A state out
 // of range is refused with 7.
+#[tactic(auto, unfolding(engine_spec::specs::SupportAge::support_age))]
 pub fn support_age(engine: Engine) -> Result<Option<f64>, Refusal>
     ensures { result ≡ aged (support_age engine) }
 {
@@ -21,10 +22,11 @@ pub fn support_age(engine: Engine) -> Result<Option<f64>, Refusal>
 }
 
 // The coast of a snapshot that is Locked.
+#[tactic(auto, unfolding(engine_spec::specs::SupportAge::coast_shown, engine_spec::specs::Cases::is_locked))]
 fn coast_shown(s: Snapshot) -> Option<f64>
     ensures { result ≡ coast_shown s }
 {
-    if s.state == State::Locked {
+    if matches!(s.state, State::Locked) {
         return Some(s.diagnostics.spectral.coast_ms);
     }
     None
