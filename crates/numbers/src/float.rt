@@ -3,11 +3,13 @@ ghost use Rattle.std.specs.Prelude.{◌≡◌};
 ghost use Rattle.std.specs.Float.Ieee.Scale.{finite};
 ghost use Rattle.numbers_spec.specs.Arithmetic.{absolute, at_least, at_most, real};
 
+use std::num::{f32_to_f64_with_nan, nearest_usize_to_f64};
+
 // x in the wider format, which holds every f32. A NaN gives a NaN.
 pub fn widen(x: f32) -> f64
     ensures { result ≡ x }
 {
-    std::num::f32_to_f64_with_nan(x)
+    f32_to_f64_with_nan(x)
 }
 
 // Whether x is neither a NaN nor an infinity.
@@ -30,17 +32,17 @@ pub fn is_finite_f32(x: f32) -> bool
 pub fn real(n: usize) -> f64
     ensures { result ≡ real n }
 {
-    std::num::nearest_u64_to_f64(n as u64)
+    nearest_usize_to_f64(n)
 }
 
-// |x|, to be compared: a zero keeps its sign.
+// |x|, to be compared: a zero keeps its sign, which std's `abs` takes.
 pub fn abs(x: f64) -> f64
     ensures { result ≡ absolute x }
 {
     if x < 0.0 { -x } else { x }
 }
 
-// The larger of the two, and the floor where x is a NaN.
+// The larger of the two, and the floor where x is a NaN. (Of two zeros std's `max` gives either.)
 pub fn at_least(floor: f64, x: f64) -> f64
     ensures { result ≡ at_least floor x }
 {

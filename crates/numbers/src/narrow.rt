@@ -1,5 +1,6 @@
 // The nearest f32 of an f64, from its bits: leading zeros tell how many digits to leave off, one
 // rounding of the whole significand then gives the pattern, whose exponent counts a carry by itself.
+// Kept: document 01 wants it worked out from bits, so std's conversion, the processor's, is not asked.
 ghost use Rattle.std.specs.Prelude.{◌≡◌, ◌*◌, ◌^◌, ◌<◌, ◌≤◌, if◌then◌else◌, to_bits};
 ghost use Rattle.std.specs.Float.Ieee.Nearest.{closest};
 ghost use Rattle.std.specs.Float.{binary32};
@@ -90,9 +91,9 @@ fn dropped(p: Parts) -> u64
 // sig / 2 ^ shift to the nearest whole number, a tie to the even one, by the sum of `by_sum`: just under
 // a half is added, or a half where the last digit kept is odd. No branch: the rest is as good as random.
 fn nearest(sig: u64, shift: u64) -> u64
-    requires fact_1 { sig < 2 ^ 63 }
-    requires fact_2 { 0 < shift }
-    requires fact_3 { shift < 64 }
+    requires sig_lt { sig < 2 ^ 63 }
+    requires shift_some { 0 < shift }
+    requires shift_lt { shift < 64 }
     ensures { result ≡ closest sig (2 ^ shift) }
 {
     let half = 1u64 << (shift - 1);

@@ -96,8 +96,8 @@ fn near_root(c: u64, n: u128) -> u64
 // and a step of the third order ends at √v. That it is near is not proved, and nothing rests on it
 // but time.
 fn guess(bits: u64) -> u64
-    requires fact_1 { 1023 * 2 ^ 52 ≤ bits }
-    requires fact_2 { bits < 1025 * 2 ^ 52 }
+    requires bits_ge { 1023 * 2 ^ 52 ≤ bits }
+    requires bits_lt { bits < 1025 * 2 ^ 52 }
     ensures { (0 < result) × (result ≤ 2 ^ 53) }
 {
     let v = f64::from_bits(bits);

@@ -35,8 +35,8 @@ fn signed(minus: bool, mag: u64) -> f64
 
 // sig / 2 ^ gap to the nearest whole number, a half going up.
 fn half_up(sig: u64, gap: u64) -> u64
-    requires fact_1 { sig < 2 ^ 53 }
-    requires fact_2 { 0 < gap }
+    requires sig_lt { sig < 2 ^ 53 }
+    requires gap_some { 0 < gap }
     ensures { result ≡ half_up sig (2 ^ gap) }
 {
     if gap > 63 {

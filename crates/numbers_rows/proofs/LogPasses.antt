@@ -1,14 +1,11 @@
 -- What the passes over a row of logarithms share: that numbers below plus infinity go through them, and that what the passes give is `ln_1p`. Assumes nothing.
-use mathlib.Core.Path.{◌≡◌, refl, sym, subst, ap, ◌∙◌}
+use mathlib.Core.Path.{◌≡◌, refl, sym, ap, ◌∙◌}
 use mathlib.Core.Bool.{Bool, true, false, cond, not, ◌&&◌}
-use mathlib.Core.List.{List}
-use Prim.Native.Nat.{ℕ, zero, suc, ◌+◌, ◌-◌, ◌*◌, ◌≤◌, ◌<◌}
+use Prim.Native.Nat.{ℕ, zero, suc, ◌+◌, ◌-◌, ◌*◌}
 use native.Mathlib.Nat.{zero-lt-suc, sub-zero, zero-add, add-zero, zero-mul, mul-one, one-mul}
-use native.Mathlib.Omega.{arith}
 use borrow.Author.Tests.{lt-ltb}
-use lib.Dec.{T, ltb, ltb→lt, nltb→le}
+use lib.Dec.{T, ltb}
 use lib.IntN.{pos}
-use lib.ListN.{get_or, length}
 use lib.Ieee.{Float, nan, inf, fin, binary32, binary64, up, down, sum, round, add, mul, neg, lt, le, of_bits, of_int, fits, is_nan}
 use lib.Ieee.Fits.{mul-fits}
 use Rattle.numbers_spec.specs.Arithmetic.{◌⊕◌, ◌⊖◌, ◌⊗◌, ◌⊘◌, zero⁺, one, two}
@@ -21,10 +18,7 @@ use Rattle.numbers_spec.proofs.Order.{lt→le, not-le→lt, le_transitive}
 use Rattle.numbers_spec.proofs.Placed.{round_own}
 use Rattle.numbers_spec.proofs.LogLaws.{log_is}
 use Rattle.numbers_spec.proofs.Log1p.{one_more_normal}
-use Rattle.numbers_spec.proofs.RowLaws.{length_logs, log_at_lem}
-use Rattle.numbers_rows.proofs.Rows.{all_places}
-use Rattle.numbers_rows.specs.Logs.{Below, AllBelow, Holds, Logged, near_one, power, ratio, terms, joined}
-use Rattle.numbers_spec.specs.Rows.{logs_of}
+use Rattle.numbers_rows.specs.Logs.{Below, near_one, power, ratio, terms, joined}
 
 -- ---- what is below plus infinity is no NaN
 pub below_number : (w : Float) → Below w → T (not (is_nan w))
@@ -32,10 +26,6 @@ unfolding lt is_nan
 below_number nan b = absurd b
 below_number (inf s) b = tt
 below_number (fin s m e) b = tt
-
--- all places hold their logarithm
-pub logged_all : (w : List Float) (n : ℕ) (row : List Float) → Logged w n row → length row ≡ length w → length w ≤ n → row ≡ logs_of w
-logged_all w n row h e l = all_places (logs_of w) n row (λ k b. h k b ∙ sym (log_at_lem w k)) (e ∙ sym (length_logs w)) (subst (λ (x : ℕ). x ≤ n) (sym (length_logs w)) l)
 
 -- ---- -0 changes no sum
 minus_zero_sum : (a c : ℕ) → cond (ltb 0 a) (round binary64 false (a - 0) c) (round binary64 (true && ltb a 0) (0 - a) c) ≡ round binary64 false a c
@@ -110,32 +100,9 @@ wide_is w F b = go (le w series_most) (large_normal w F b)
     go true n = small_is (log_twice (w ⊘ (two ⊕ w))) (mul-fits binary64 two _)
     go false n = chosen (lt sqrt2 (mantissa v)) (mantissa v) (exponent v) ∙ sym (log_is v (n tt))
 
--- ---- what a block adds to the logarithms that stand before it
-pub record Passed (w : List Float) (at n : ℕ) (powers ratios sums near logs : List Float) : Type 0 where
-  pub powers_are : Holds power w at n powers
-  pub ratios_are : Holds ratio_of w at n ratios
-  pub sums_are : (k : ℕ) → k < n → get_or sums k nan ≡ series_of (get_or ratios k nan)
-  pub joined_are : (k : ℕ) → k < n → get_or near k nan ≡ joined (get_or powers k nan) (get_or ratios k nan) (get_or sums k nan)
-  pub narrow_are : (k : ℕ) → k < n → get_or logs (at + k) nan ≡ nearest_f32 (get_or near k nan)
-
-module _ (w : List Float) (at n : ℕ) (powers ratios sums near logs : List Float) (F : (k : ℕ) → T (fits binary32 (get_or w k nan))) (b : AllBelow w) (room : at + n ≤ length w) (p : Passed w at n powers ratios sums near logs) where
-  behind : (k : ℕ) → k < n → get_or logs (at + k) nan ≡ log1p_of (get_or w (at + k) nan)
-  unfolding log1p_of
-  behind k l =
-      let x = get_or w (at + k) nan in
-      let s = p.ratios_are k l in
-      p.narrow_are k l
-      ∙ ap nearest_f32
-      (p.joined_are k l
-      ∙ (λ i. joined (p.powers_are k l i) (s i) ((p.sums_are k l ∙ ap series_of s) i))
-      ∙ wide_is x (F (at + k)) (b (at + k) (omega (arith, room, l))))
-
-  pub block_logged : (before : (k : ℕ) → k < at → get_or logs k nan ≡ log1p_of (get_or w k nan)) → Logged w (at + n) logs
-  block_logged before k l = go (ltb k at) refl
-    where
-      go : (t : Bool) → ltb k at ≡ t → get_or logs k nan ≡ log1p_of (get_or w k nan)
-      go true h = before k (ltb→lt k at (subst T (sym h) tt))
-      go false h =
-          let g : at ≤ k = nltb→le k at (subst (λ (t : Bool). T (not t)) (sym h) tt) in
-          let e : at + (k - at) ≡ k = omega (arith, g) in
-          subst (λ (x : ℕ). get_or logs x nan ≡ log1p_of (get_or w x nan)) e (behind (k - at) (omega (arith, l, g)))
+-- ---- what the passes give at one place
+pub logged_at : (w : Float) → T (fits binary32 w) → Below w → {e m s q x r : Float} → e ≡ power w → m ≡ near_one w → s ≡ ratio w m → q ≡ series_of s → x ≡ joined e s q → r ≡ nearest_f32 x → r ≡ log1p_of w
+unfolding log1p_of
+logged_at w F b {e} {m} {s} {q} {x} {r} pe pm ps pq px pr =
+    let ratio_is : s ≡ ratio_of w = ps ∙ ap (ratio w) pm in
+    pr ∙ ap nearest_f32 (px ∙ (λ i. joined (pe i) (ratio_is i) ((pq ∙ ap series_of ratio_is) i)) ∙ wide_is w F b)

@@ -4,7 +4,7 @@ use Rattle.std.specs.Float.{nan, inf, binary64}
 use Rattle.std.specs.Float.Ieee.{neg, lt, le, of_int}
 use Rattle.numbers_spec.specs.Arithmetic.{◌⊕◌, ◌⊖◌, ◌⊗◌, ◌⊘◌, zero⁺, one, two}
 use Rattle.numbers_spec.specs.Exponential.{hi, lo}
-use Rattle.numbers_spec.specs.Logarithm.{half, sqrt2, series_most, mantissa, exponent, log1p_of}
+use Rattle.numbers_spec.specs.Logarithm.{half, sqrt2, series_most, mantissa, exponent}
 
 -- w is below plus infinity, so no NaN.
 abbrev pub Below : Float → Type 0
@@ -14,17 +14,9 @@ Below w = T (lt w (inf false))
 abbrev pub AllBelow : List Float → Type 0
 AllBelow l = (k : ℕ) → k < length l → Below (get_or l k nan)
 
--- A working row holds, in its first n places, f of the numbers of w from `at` on.
-abbrev pub Holds : (Float → Float) → List Float → ℕ → ℕ → List Float → Type 0
-Holds f w at n row = (k : ℕ) → k < n → get_or row k nan ≡ f (get_or w (at + k) nan)
-
--- The first n of w's logarithms stand in a row.
-abbrev pub Logged : List Float → ℕ → List Float → Type 0
-Logged w n row = (k : ℕ) → k < n → get_or row k nan ≡ log1p_of (get_or w k nan)
-
--- A row's first n places are +0.
-abbrev pub Zeros : ℕ → List Float → Type 0
-Zeros n row = (k : ℕ) → k < n → get_or row k nan ≡ zero⁺
+-- A working row holds f of each number of w.
+abbrev pub Holds : (Float → Float) → List Float → List Float → Type 0
+Holds f w row = (k : ℕ) → k < length w → get_or row k nan ≡ f (get_or w k nan)
 
 -- m of 1 + w = m × 2^e, halved above √2.
 unfoldable pub near_one : Float → Float

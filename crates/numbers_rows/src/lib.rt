@@ -4,4 +4,5 @@
 
 pub mod ln_1p_row;
 pub mod narrow_row;
+pub mod passes;
 pub mod root_row;

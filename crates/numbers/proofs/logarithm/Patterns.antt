@@ -21,16 +21,9 @@ or_number (inf true) z h = tt
 or_number (inf false) z h = tt
 or_number (fin s m e) z h = tt
 
-half_number : T (not (is_nan one_and_half))
-unfolding is_nan of_bits of_fields odd count_trailing_zeros
-half_number = tt
-
 infinite_number : T (not (is_nan infinite))
 unfolding is_nan of_bits of_fields odd count_trailing_zeros
 infinite_number = tt
-
-pub half_or_number : (v : Float) {r : Float} → r ≡ number_or v one_and_half → T (not (is_nan r))
-half_or_number v e = subst (λ (x : Float). T (not (is_nan x))) (sym e) (or_number v one_and_half half_number)
 
 pub infinite_or_number : (v : Float) {r : Float} → r ≡ number_or v infinite → T (not (is_nan r))
 infinite_or_number v e = subst (λ (x : Float). T (not (is_nan x))) (sym e) (or_number v infinite infinite_number)

@@ -1,4 +1,4 @@
--- What is left of the series, from p, is the whole series from 1.
+-- `numbers::exponential::exp_series` meets its contract: what is left of the series, from p, is the whole series from 1. Assumes nothing.
 use Rattle.std.proofs.Common.{◌≡◌}
 use Rattle.numbers_spec.specs.Arithmetic.{one}
 use Rattle.numbers_spec.specs.Exponential.{exp_series}

@@ -1,4 +1,4 @@
--- What is left of the series, from q, is the whole series from 0.
+-- `numbers::logarithm::log_series` meets its contract: what is left of the series, from q, is the whole series from 0. Assumes nothing.
 use Rattle.std.proofs.Common.{◌≡◌}
 use Rattle.numbers_spec.specs.Arithmetic.{zero⁺}
 use Rattle.numbers_spec.specs.Logarithm.{log_series}

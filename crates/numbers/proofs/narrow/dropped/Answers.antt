@@ -1,3 +1,4 @@
+-- `numbers::narrow::dropped` meets its contract. Assumes nothing.
 use Rattle.std.proofs.Common.{◌+◌, ◌-◌, sym, ap, ◌∙◌, subst}
 use Rattle.numbers.specs.Parts.{Dropped}
 use Rattle.numbers.proofs.narrow.Drop.{dropped_is}

@@ -42,7 +42,7 @@ fitting : (c : goal.After-nearest) → T (fits binary32 (rounded (found c.before
 fitting c = let w = found c.before in round-fits binary32 false (w.sig * 2 ^ w.exp) (2 ^ 1074)
 
 pub nearest-requires : goal.nearest-requires
-nearest-requires c = record { fact_1 = pattern_lt c.args.x (found c); fact_2 = lit< tt; fact_3 = lit< tt }
+nearest-requires c = record { sig_lt = pattern_lt c.args.x (found c); shift_some = lit< tt; shift_lt = lit< tt }
 
 pub overflow_sub-result : goal.overflow_sub-result
 overflow_sub-result c =

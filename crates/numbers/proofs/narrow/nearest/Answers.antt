@@ -17,4 +17,4 @@ unfolding by_sum
 returns c =
     let a = c.args.sig in
     let k = c.args.shift in
-    ap (λ (n : ℕ). n / 2 ^ k) (omega (arith, half_is k c.requires.fact_3)) ∙ sum_closest k a c.requires.fact_2
+    ap (λ (n : ℕ). n / 2 ^ k) (omega (arith, half_is k c.requires.shift_lt)) ∙ sum_closest k a c.requires.shift_some

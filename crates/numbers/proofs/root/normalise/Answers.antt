@@ -1,3 +1,4 @@
+-- `numbers::root::normalise` meets its contract. Assumes nothing.
 use Rattle.std.proofs.Common.{◌≡◌, ◌*◌, ◌^◌, ◌<◌, ◌≤◌, sym, refl, ap, ◌∙◌, subst, mul-one, arith}
 use Rattle.numbers_spec.proofs.Rooted.{zeros_ge, Z, full_is, none_left, F-ge, F-lt}
 use Rattle.numbers.proofs.root.normalise.Goals as goal

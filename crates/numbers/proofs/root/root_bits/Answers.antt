@@ -1,3 +1,4 @@
+-- `numbers::root::root_bits` meets its contract. Assumes nothing.
 use Rattle.std.proofs.Common.{◌≡◌, ℕ, ◌+◌, ◌*◌, ◌/◌, ◌%◌, ◌^◌, ap, ◌∙◌, subst, arith}
 use Rattle.numbers_spec.specs.Root.{NearRoot}
 use Rattle.numbers_spec.proofs.Rooted.{c_le, root_bits_is}

@@ -1,3 +1,4 @@
+-- `numbers::root::root_digits` meets its contract. Assumes nothing.
 use Rattle.std.proofs.Common.{◌+◌, ◌*◌, ◌%◌, ◌^◌, ◌<◌, sym, subst, lt_of_le_of_lt, lt_of_lt_of_le, pow_mono, shl_lt, arith}
 use native.Mathlib.Nat.{mod-le}
 use Rattle.numbers.proofs.root.root_digits.Goals as goal

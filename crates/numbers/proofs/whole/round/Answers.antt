@@ -1,3 +1,4 @@
+-- `numbers::whole::round` meets its contract. Assumes nothing.
 use Rattle.std.proofs.Common.{ℕ, ◌-◌, ◌^◌, ◌≤◌, T, sym, ◌∙◌, subst, pow_pos}
 use Rattle.numbers.proofs.whole.Fractions.{rounds_small, rounds_large, other, half_up_le}
 use Rattle.numbers.proofs.whole.round.Goals as goal

@@ -1,37 +1,23 @@
 -- `numbers_rows::ln_1p_row::log_block` meets its contract. Assumes nothing.
-use mathlib.Core.Path.{◌∙◌}
-use native.Mathlib.Omega.{arith}
-use Rattle.numbers_rows.proofs.LogPasses.{block_logged}
+use Rattle.std.proofs.Common.{◌≡◌, get_or, ap, ◌∙◌, rules, arith}
+use lib.Ieee.{nan}
+use Rattle.numbers_spec.proofs.RowLaws.{narrowed_at}
+use Rattle.numbers_rows.specs.Logs.{joined, ratio}
+use Rattle.numbers_rows.proofs.LogPasses.{logged_at}
+use Rattle.numbers_rows.proofs.Rows.{all_logged}
 use Rattle.numbers_rows.proofs.ln_1p_row.log_block.Goals as goal
-
-pub ratio_row-requires : goal.ratio_row-requires
-ratio_row-requires c =
-    let split = c.split_row in
-    record { fact_1 = c.requires.logs_len_2; fact_2 = c.requires.n_in_bounds_4; fact_3 = omega (arith, c.requires.n_in_bounds_2, split.auto.near); fact_4 = c.requires.logs_len_3; fact_5 = split.ensures.holds }
-
-pub series_row-requires : goal.series_row-requires
-series_row-requires c =
-    record { fact_1 = c.requires.n_in_bounds_5; fact_2 = omega (arith, c.requires.n_in_bounds_2, c.split_row.auto.near); fact_3 = c.requires.n_in_bounds_1; fact_4 = omega (arith, c.requires.n_in_bounds_4, c.ratio_row.auto.ratios); fact_5 = c.requires.zeros_1 }
-
-pub join_row-requires : goal.join_row-requires
-join_row-requires c =
-    let series = c.series_row in
-    let split = c.split_row in
-    record { fact_1 = omega (arith, c.requires.n_in_bounds_2, split.auto.near, series.auto.half); fact_2 = omega (arith, c.requires.n_in_bounds_3, split.auto.powers); fact_3 = omega (arith, c.requires.n_in_bounds_4, c.ratio_row.auto.ratios); fact_4 = omega (arith, c.requires.n_in_bounds_5, series.auto.sums) }
-
-pub narrow_block-requires : goal.narrow_block-requires
-narrow_block-requires c =
-    record { fact_1 = omega (arith, c.requires.logs_len_1, c.requires.logs_len_2); fact_2 = omega (arith, c.requires.n_in_bounds_2, c.split_row.auto.near, c.series_row.auto.half, c.join_row.auto.out) }
 
 pub returns : goal.returns
 returns c =
-    let a = c.args in
-    let split = c.split_row in
-    let ratio = c.ratio_row in
-    let series = c.series_row in
-    let join = c.join_row in
-    let narrow = c.narrow_block in
-    block_logged a.w.now a.at a.n split.new.powers ratio.new.ratios series.new.sums join.new.out narrow.new.logs
-    c.shared_slice_known-1.given c.requires.logs_len_3 c.requires.logs_len_2
-    (record { powers_are = split.ensures.holds_2; ratios_are = ratio.ensures; sums_are = series.ensures; joined_are = join.ensures; narrow_are = narrow.ensures.by_index_2 })
-    (λ k l. narrow.ensures.by_index k l ∙ c.requires.zeros_2 k l)
+    let w = c.args.w.now in
+    let powers = c.split_row.new.powers in
+    let ratios = c.fill_by.new.out in
+    let sums = c.series_row.new.sums in
+    all_logged w _ (omega arith)
+    (λ k h.
+    let s : get_or ratios k nan ≡ ratio (get_or w k nan) (get_or c.split_row.new.near k nan) = let e = c.fill_by.ensures nan k (omega arith) in search rules in
+    let x : get_or c.fill_by-2.new.out k nan ≡ joined (get_or powers k nan) (get_or ratios k nan) (get_or sums k nan) =
+    let e = c.fill_by-2.ensures nan k (omega arith) in search rules in
+    logged_at (get_or w k nan) (c.type_inv.w k) (c.requires.below k h)
+    (c.split_row.ensures.powers_are k h) (c.split_row.ensures.near_are k h) s (c.series_row.ensures k (omega arith)) x
+    (ap (λ l. get_or l k nan) c.narrow_row.ensures ∙ narrowed_at _ k))

@@ -1,29 +1,37 @@
-use mathlib.Core.Path.{refl, ◌∙◌}
-use native.Mathlib.Omega.{arith}
-use native.Mathlib.Nat.{lt_of_lt_of_le}
-use lib.ListN.{get_or-replicate}
-use lib.Ieee.{nan, of_bits}
-use Rattle.numbers_spec.specs.Arithmetic.{zero⁺}
-use Rattle.numbers_rows.proofs.LogPasses.{logged_all}
-use Rattle.numbers_rows.proofs.Rows.{none}
+use Rattle.std.proofs.Common.{◌≡◌, ◌+◌, ◌-◌, take, sym, refl, ap, ◌∙◌, subst, arith}
+use borrow.Rule.Slice.PartMut.{put_mid}
+use lib.Seq.{take_all}
+use Rattle.numbers_spec.specs.Rows.{logs_of}
+use Rattle.numbers_rows.proofs.Rows.{block_more, room_kept}
 use Rattle.numbers_rows.proofs.ln_1p_row.log_blocks.Goals as goal
 
 pub loop-at-init : goal.loop-at-init
-loop-at-init c = (omega arith, refl, (λ k l. none l), refl, refl, refl, refl)
-
-pub log_block-requires : goal.log_block-requires
-unfolding of_bits
-log_block-requires c =
-    let inv = c.loop-at.invariant in
-    let size = c.block_size-n.ensures in
-    let small = size.2 in
-    record { logs_len_1 = omega arith; logs_len_2 = omega arith; logs_len_3 = c.requires.fact_2; n_in_bounds_1 = small; n_in_bounds_2 = omega (arith, small, inv.3); n_in_bounds_3 = omega (arith, small, inv.4); n_in_bounds_4 = omega (arith, small, inv.5); n_in_bounds_5 = omega (arith, small, inv.6); zeros_1 = (λ k l. get_or-replicate 120 k zero⁺ nan (lt_of_lt_of_le l small)); zeros_2 = inv.2 }
+unfolding logs_of
+loop-at-init c = (refl, refl, refl, refl, refl)
 
 pub loop-at-preserved : goal.loop-at-preserved
 loop-at-preserved c =
-    let block = c.log_block in
-    let inv = c.loop-at.invariant in
-    (omega arith, omega arith, block.ensures, block.auto.near ∙ inv.3, block.auto.powers ∙ inv.4, block.auto.ratios ∙ inv.5, block.auto.sums ∙ inv.6)
+    let l = c.loop-at in
+    let end = c.min-end.result in
+    let w = c.args.w.now in
+    let next = c.log_block.new.logs in
+    let full : end ≡ l.at + 120 = omega arith in
+    let more = block_more w l.logs next l.at end (omega arith) (omega arith) (omega arith) l.invariant.0 c.log_block.ensures in
+    let n = end - l.at in
+    let new = c.log_block.new in
+    let as_long = c.log_block.auto in (
+      subst (λ n. take n (put_mid l.at (end - l.at) l.logs next) ≡ logs_of (take n w)) full more,
+      room_kept new.near l.near n as_long.near ∙ l.invariant.1,
+      room_kept new.powers l.powers n as_long.powers ∙ l.invariant.2,
+      room_kept new.ratios l.ratios n as_long.ratios ∙ l.invariant.3,
+      room_kept new.sums l.sums n as_long.sums ∙ l.invariant.4,
+    )
 
-pub returns : goal.returns
-returns c = logged_all _ c.loop-at.at c.loop-at.logs c.loop-at.invariant.2 (omega arith) (omega arith)
+pub returns-2 : goal.returns-2
+returns-2 c =
+    let l = c.loop-at in
+    let end = c.min-end.result in
+    let w = c.args.w.now in
+    let logs = put_mid l.at (end - l.at) l.logs c.log_block.new.logs in
+    let more = block_more w l.logs c.log_block.new.logs l.at end (omega arith) (omega arith) (omega arith) l.invariant.0 c.log_block.ensures in
+    sym (take_all end logs (omega arith)) ∙ more ∙ ap logs_of (take_all end w (omega arith))

@@ -1,12 +1,9 @@
--- `numbers_rows::ln_1p_row::split_row` meets its contract. The loop's invariant: so many places are filled. Assumes nothing.
-use mathlib.Core.Path.{◌≡◌}
-use Prim.Native.Nat.{◌-◌, ◌≤◌}
-use lib.ListN.{length}
-use Rattle.numbers_rows.specs.Logs.{Holds, near_one, power}
+-- `numbers_rows::ln_1p_row::split_row` meets its contract: so many places are filled. Assumes nothing.
+use Rattle.std.proofs.Common.{ℕ, ◌<◌, ◌≡◌, get_or}
+use lib.Ieee.{nan}
+use Rattle.numbers_rows.specs.Logs.{near_one, power}
 use Rattle.numbers_rows.proofs.ln_1p_row.split_row.Given as goal
 
 abbrev pub invariant-loop-k : goal.invariant-loop-k
-invariant-loop-k l = (l.k ≤ l.n) × (length l.near ≡ length l.initial.near) × (length l.powers ≡ length l.initial.powers) × Holds near_one l.w l.at l.k l.near × Holds power l.w l.at l.k l.powers
-
-abbrev pub decreases-loop-k : goal.decreases-loop-k
-decreases-loop-k l = l.n - l.k
+invariant-loop-k l =
+    ((j : ℕ) → j < l.k → get_or l.near j nan ≡ near_one (get_or l.w j nan)) × ((j : ℕ) → j < l.k → get_or l.powers j nan ≡ power (get_or l.w j nan))

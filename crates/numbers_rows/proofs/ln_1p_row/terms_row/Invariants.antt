@@ -1,14 +1,11 @@
--- `numbers_rows::ln_1p_row::terms_row` meets its contract. The loop's invariant: so many places are filled. Assumes nothing.
-use mathlib.Core.Path.{◌≡◌}
-use Prim.Native.Nat.{ℕ, ◌-◌, ◌≤◌, ◌<◌}
-use lib.ListN.{get_or, length}
+-- `numbers_rows::ln_1p_row::terms_row` meets its contract: so many places have their terms, and the others are as they were. Assumes nothing.
+use Rattle.std.proofs.Common.{ℕ, ◌<◌, ◌≤◌, ◌≡◌, get_or}
 use lib.Ieee.{nan}
 use Rattle.numbers_spec.specs.Arithmetic.{◌⊗◌}
 use Rattle.numbers_rows.specs.Logs.{terms}
 use Rattle.numbers_rows.proofs.ln_1p_row.terms_row.Given as goal
 
 abbrev pub invariant-loop-k : goal.invariant-loop-k
-invariant-loop-k l = (l.k ≤ l.n) × (length l.out ≡ length l.initial.out) × ((j : ℕ) → j < l.k → get_or l.out j nan ≡ terms 4 l.i (get_or l.ratios j nan ⊗ get_or l.ratios j nan) (get_or l.sums j nan))
-
-abbrev pub decreases-loop-k : goal.decreases-loop-k
-decreases-loop-k l = l.n - l.k
+invariant-loop-k l =
+    ((j : ℕ) → j < l.k → get_or l.sums j nan ≡ terms 4 l.i (get_or l.ratios j nan ⊗ get_or l.ratios j nan) (get_or l.initial.sums j nan))
+    × ((j : ℕ) → l.k ≤ j → get_or l.sums j nan ≡ get_or l.initial.sums j nan)

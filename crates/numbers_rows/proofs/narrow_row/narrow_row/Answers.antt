@@ -1,9 +1,16 @@
 -- `numbers_rows::narrow_row::narrow_row` meets its contract. Assumes nothing.
-use mathlib.Core.Path.{sym, ◌∙◌, subst}
-use lib.Dec.{T}
-use borrow.Author.Rules.{rules}
+use Rattle.std.proofs.Common.{rules, arith}
+use lib.Ieee.{nan}
+use Rattle.numbers_rows.proofs.Rows.{all_narrowed}
 use Rattle.numbers_rows.proofs.narrow_row.narrow_row.Goals as goal
 
-pub narrow_all-requires : goal.narrow_all-requires
-narrow_all-requires c =
-    record { fact_1 = search rules; fact_2 = subst T (sym (sym c.all_plain.ensures ∙ c.if-all_plain.true)) tt }
+pub fill_by-requires : goal.fill_by-requires
+fill_by-requires c = λ k h. let p = c.all_by.ensures c.if-all_by.true k (omega arith) in search rules
+
+pub returns-then-all_by : goal.returns-then-all_by
+returns-then-all_by c =
+    all_narrowed c.args.x.now _ (omega arith) (λ k h. let e = c.fill_by.ensures nan k (omega arith) in search rules)
+
+pub returns : goal.returns
+returns c =
+    all_narrowed c.args.x.now _ (omega arith) (λ k h. let e = c.fill_by-2.ensures nan k (omega arith) in search rules)

@@ -5,15 +5,12 @@ use native.Mathlib.Omega.{arith}
 use lib.Dec.{T}
 use lib.Ieee.{Float, lt}
 use Rattle.numbers_spec.proofs.Rooted.{no_nan_bits}
-use Rattle.numbers_rows.proofs.Range.{ranged_real, ranged_le, ranged_ge}
+use Rattle.numbers_rows.proofs.Range.{ranged_le, ranged_ge}
 use Rattle.numbers_rows.proofs.Sure.{sure}
 use Rattle.numbers_rows.proofs.root_row.is_root.Goals as goal
 
 passed : (y z b : Float) → y ≡ z → lt y b ≡ true → lt z b ≡ true
 passed y z b e = subst (λ (k : Float). lt k b ≡ true) e
-
-pub float_to_bits-b : goal.float_to_bits-b
-float_to_bits-b c = ranged_real _ c.requires
 
 pub overflow_add-high : goal.overflow_add-high
 overflow_add-high c = let h = ranged_le _ c.requires in omega arith

@@ -9,9 +9,6 @@ use Rattle.numbers_rows.proofs.root_row.near.Goals as goal
 plus : (c : goal.After-at_least-v) → Plus c.at_least-v.result
 plus c = subst Plus (sym c.at_least-v.ensures) (from_tiny _ (subst T (sym c.well_formed.0.1) tt))
 
-pub float_to_bits-y : goal.float_to_bits-y
-float_to_bits-y c = (plus c).real
-
 pub overflow_sub-y : goal.overflow_sub-y
 overflow_sub-y c = let h = (plus c).bits_le in omega arith
 

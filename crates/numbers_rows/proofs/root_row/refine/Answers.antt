@@ -9,9 +9,6 @@ use Rattle.numbers_rows.proofs.root_row.refine.Goals as goal
 plus : (c : goal.After-at_least) → Plus c.at_least.result
 plus c = subst Plus (sym c.at_least.ensures) (from_least _ (subst T (sym c.well_formed.1.0.1) tt))
 
-pub float_to_bits-c : goal.float_to_bits-c
-float_to_bits-c c = (plus c).real
-
 pub overflow_mul-c : goal.overflow_mul-c
 overflow_mul-c c = let h = (plus c).bits_le in omega arith
 

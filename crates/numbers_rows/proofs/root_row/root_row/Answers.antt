@@ -1,5 +1,13 @@
 -- `numbers_rows::root_row::root_row` meets its contract. Assumes nothing.
+use Rattle.std.proofs.Common.{rules, arith}
+use lib.Ieee.{nan}
+use Rattle.numbers_rows.proofs.Rows.{all_rooted}
 use Rattle.numbers_rows.proofs.root_row.root_row.Goals as goal
 
-pub returns-then-settle_row : goal.returns-then-settle_row
-returns-then-settle_row c = c.settle_row.ensures c.if-settle_row.true
+pub returns-then-all_by : goal.returns-then-all_by
+returns-then-all_by c =
+    all_rooted c.args.x.now _ (omega arith) (λ k h. let e = c.all_by.ensures c.if-all_by.true k h in search rules)
+
+pub returns : goal.returns
+returns c =
+    all_rooted c.args.x.now _ (omega arith) (λ k h. let e = c.fill_by-2.ensures nan k (omega arith) in search rules)

@@ -1,0 +1,25 @@
+// One pass over a row, of which each place is worked out by itself: a loop without a branch, if the
+// closure has none.
+ghost use Rattle.std.specs.Prelude.{ℕ, ◌<◌, ◌≡◌, true, get_or, length};
+
+// Writes f(i) in each place i of out.
+pub fn fill_by<T: Copy, F: Fn(usize) -> T>(out: &mut [T], f: F)
+    requires { (k : ℕ) → k < length out.old → F.pre f k }
+    ensures { (d : T) (k : ℕ) → k < length out.old → F.post f k (get_or out.new k d) }
+{
+    for i in 0..out.len() {
+        out[i] = f(i);
+    }
+}
+
+// Whether f(i) is true for each i below n. All are asked.
+pub fn all_by<F: Fn(usize) -> bool>(n: usize, f: F) -> bool
+    requires { (k : ℕ) → k < n → F.pre f k }
+    ensures { result ≡ true → (k : ℕ) → k < n → F.post f k true }
+{
+    let mut all = true;
+    for i in 0..n {
+        all &= f(i);
+    }
+    all
+}
