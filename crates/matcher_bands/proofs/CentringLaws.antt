@@ -8,13 +8,13 @@ use native.Mathlib.Omega.{arith}
 use lib.Ieee.{Float, nan, binary32, sub}
 use lib.ListN.{length, get_or, take, drop, length-take, length-drop}
 use lib.Seq.{length-take-le, take_at, drop_at, take-append-le, take-append-add, drop-append-le, drop-append-add, get_or-append-add, get_or-take, get_or-drop, drop-drop, ext_get_or}
-use borrow.Rule.Slice.PartMut.{put_mid, post_of, same_len_mid, mid_len, take_put, drop_put}
+use borrow.Rule.Slice.PartMut.{put_mid, post_of, same_len_mid, mid_len, drop_put}
 use Rattle.numbers_spec.specs.Rows.{tabulate, rows, row, narrowed_of, logs_of}
 use Rattle.matcher_spec.specs.Centring.{sum_of, mean_around, centred_at, centred}
 use Rattle.matcher_bands.specs.Centring.{prefix_sums, last_or, wide_mean}
 use Rattle.numbers_spec.specs.Arithmetic.{◌⊕◌, ◌⊖◌, ◌⊗◌, ◌⊘◌, real}
 use Rattle.numbers_spec.specs.Narrow.{nearest_f32}
-use Rattle.numbers_spec.proofs.RowLaws.{length_logs, length_narrowed, length_tabulate, get_d_tabulate, narrowed_at, tabulate_ext, whole_row, Filled, Filling, filled_length, next_row}
+use Rattle.numbers_spec.proofs.RowLaws.{length_narrowed, length_tabulate, get_d_tabulate, narrowed_at, tabulate_ext, whole_row, Filled, Filling, filled_length, next_row}
 use Rattle.numbers_spec.proofs.PartLaws.{rest, row_at, row_length, tabulate_add}
 
 module _ {A : Type 0} (f : ℕ → A) where
@@ -53,6 +53,10 @@ module _ {A : Type 0} (f : ℕ → A) where
           ∙ get_d_tabulate f n (from + i) z (omega arith)
           ∙ sym (get_d_tabulate (λ (k : ℕ). f (from + k)) count i z w)
 
+-- a list filled so far, where that is said in other words
+pub filling_at : {A : Type 0} {f : ℕ → A} {d row : List A} {i j : ℕ} → Filling f d i row → i ≡ j → Filling f d j row
+filling_at {f = f} {d = d} {row = row} p e = subst (λ (k : ℕ). Filling f d k row) e p
+
 -- the mean as an f32
 narrowed_mean : (sums : List Float) (first last : Float) (r i : ℕ) → nearest_f32 (wide_mean sums first last r i) ≡ mean_around (λ (k : ℕ). get_or sums k nan) (length sums - 1) first last r i
 unfolding wide_mean mean_around
@@ -85,50 +89,38 @@ taken_off w n from row {wide} {means} p q e =
     ∙ ap (λ (m : ℕ). tabulate (λ (k : ℕ). sub binary32 (get_or row (from + k) nan) (get_or means k nan)) m ++ drop m row) long
     ∙ ap (λ (l : List Float). l ++ drop n row) (tabulate_ext _ _ n (λ k h. ap (sub binary32 (get_or row (from + k) nan)) (mean k h)))
 
--- ---- a row's frames from `from` on, centred at its front
-module _ (r from : ℕ) (v : List Float) where
-  abbrev pub centred_from : ℕ → Float
-  centred_from i = centred_at r v (from + i)
+-- ---- a row's frames from `from` on, less their means, at its front
+module _ (w : ℕ → Float) (from : ℕ) (v : List Float) where
+  -- frame from + i of the row, less the mean around it
+  abbrev pub smoothed : ℕ → Float
+  smoothed i = sub binary32 (get_or v (from + i) nan) (nearest_f32 (w (from + i)))
 
-  -- the row from `at` on, less the means of n frames, by the prefix sums
-  abbrev block_of : List Float → ℕ → ℕ → List Float → List Float
-  block_of sums at n row =
-      tabulate (λ (k : ℕ). sub binary32 (get_or row (from + k) nan) (nearest_f32 (wide_mean sums (get_or v 0 nan) (get_or v (length v - 1) nan) r (from + at + k)))) n ++ drop n row
-
-  -- it was lent, and came back so
-  pub centred_block : (sums : List Float) (at n : ℕ) {m : ℕ} {row part : List Float} → sums ≡ prefix_sums v → from + (at + n) ≤ length v → m ≡ n → Filling centred_from v at row
-      → part ≡ block_of sums at m (take (length row - at) (drop at row)) → Filling centred_from v (at + n) (put_mid at (length row - at) row part)
-  centred_block sums at n {m} {row} {part} e h long p q =
-      record { within = omega arith; size = filled_length centred_from v (at + n) front (omega arith); front = front }
+  -- The row from `at` on was lent, and came back with n more frames so.
+  pub smoothed_block : (at n next : ℕ) {m : ℕ} {row part : List Float} → Filling smoothed v at row → m ≡ n → at + n ≡ next → next ≤ length v
+      → part ≡ tabulate (λ (k : ℕ). sub binary32 (get_or (take (length row - at) (drop at row)) (from + k) nan) (nearest_f32 (w (from + at + k)))) m ++ drop m (take (length row - at) (drop at row))
+      → Filling smoothed v next (put_mid at (length row - at) row part)
+  smoothed_block at n next {m} {row} {part} p size end h q =
+      record { within = h; size = filled_length smoothed v next (rw end at front) h; front = rw end at front }
     where
-      value : (k : ℕ) → k < n → sub binary32 (get_or (drop at v) (from + k) nan) (nearest_f32 (wide_mean sums (get_or v 0 nan) (get_or v (length v - 1) nan) r (from + at + k))) ≡ centred_from (at + k)
-      value k w =
-          let i : ℕ = from + (at + k) in
-          let here : at + (from + k) ≡ i = omega arith in
-          let there : from + at + k ≡ i = omega arith in
-          (λ j. sub binary32 ((get_or-drop at v (from + k) nan ∙ ap (λ (l : ℕ). get_or v l nan) here) j) (nearest_f32 (wide_mean sums (get_or v 0 nan) (get_or v (length v - 1) nan) r (there j))))
-          ∙ centred_by v sums r i (omega arith) e
+      block_of : List Float → ℕ → List Float
+      block_of l j = tabulate (λ (k : ℕ). sub binary32 (get_or l (from + k) nan) (nearest_f32 (w (from + at + k)))) j ++ drop j l
 
-      came : part ≡ tabulate (λ (k : ℕ). centred_from (at + k)) n ++ drop n (drop at v)
-      came = q ∙ (λ j. block_of sums at (long j) (filled_rest centred_from v at p.front j)) ∙ ap (λ (l : List Float). l ++ drop n (drop at v)) (tabulate_ext _ _ n value)
+      value : (k : ℕ) → k < n → sub binary32 (get_or (drop at v) (from + k) nan) (nearest_f32 (w (from + at + k))) ≡ smoothed (at + k)
+      value k _ =
+          let here : at + (from + k) ≡ from + (at + k) = omega arith in
+          let there : from + at + k ≡ from + (at + k) = omega arith in
+          λ j. sub binary32 ((get_or-drop at v (from + k) nan ∙ ap (λ (l : ℕ). get_or v l nan) here) j) (nearest_f32 (w (there j)))
 
-      front : Filled centred_from v (at + n) (put_mid at (length row - at) row part)
-      front = filled_block centred_from v at n p.front came
+      came : part ≡ tabulate (λ (k : ℕ). smoothed (at + k)) n ++ drop n (drop at v)
+      came = q ∙ (λ j. block_of (filled_rest smoothed v at p.front j) (size j)) ∙ ap (λ (l : List Float). l ++ drop n (drop at v)) (tabulate_ext _ _ n value)
 
--- a part of n elements has n
-pub part_length : {A : Type 0} (at n : ℕ) (l : List A) → at + n ≤ length l → length (take (at + n - at) (drop at l)) ≡ n
-part_length at n l h = simp (length-take, length-drop) (omega arith)
+      front : Filled smoothed v (at + n) (put_mid at (length row - at) row part)
+      front = filled_block smoothed v at n p.front came
 
--- ---- a part lent twice: what came back first is lent, and what came back then stands in the whole
-pub lent_again : {A : Type 0} (at n : ℕ) (whole part : List A) → at ≤ length whole → length part ≡ n → take n (drop at (put_mid at n whole part)) ≡ part
-lent_again at n whole part h l =
-    ap (take n) (drop_at (take at whole) (part ++ post_of at n whole) at (length-take-le at whole h))
-    ∙ take_at part (post_of at n whole) n l
-
-put_again : {A : Type 0} (at n : ℕ) (whole part last : List A) → at ≤ length whole → length part ≡ n → put_mid at n (put_mid at n whole part) last ≡ put_mid at n whole last
-put_again at n whole part last h l =
-    let after = ap (drop n) (drop_at (take at whole) (part ++ post_of at n whole) at (length-take-le at whole h)) ∙ drop_at part (post_of at n whole) n l in
-    (λ i. take_put at n whole part h i ++ (last ++ after i))
+-- with the row's own prefix sums and ends, that is the centred row
+pub smoothed_row : (r from count : ℕ) (v sums : List Float) (first last : Float) → sums ≡ prefix_sums v → first ≡ get_or v 0 nan → last ≡ get_or v (length v - 1) nan → from + count ≤ length v
+    → tabulate (smoothed (wide_mean sums first last r) from v) count ≡ tabulate (λ (i : ℕ). centred_at r v (from + i)) count
+smoothed_row r from count v sums first last e f l h = rw (f, l) (tabulate_ext _ _ count (λ i w. centred_by v sums r (from + i) (omega arith) e))
 
 pub last_more : {A : Type 0} (z : A) (f : ℕ → A) (n : ℕ) → last_or z f (n + 1) ≡ f n
 unfolding last_or
@@ -220,40 +212,20 @@ module _ (frames radius from count : ℕ) (v d s : List Float) where
   unfolding last_or
   centred_none = record { bands = fronted_none band_of left_of count (frames - count) d; last = refl }
 
-  -- the part from b * count on was lent twice: it came back with the logs of band b, and then with these centred
-  pub centred_more : (b m n : ℕ) {out sums logs part next : List Float} → from + count ≤ frames → b * frames + frames ≤ length v → b * count + frames ≤ length d
-      → m ≡ frames → n ≡ b * count + frames - b * count → Centred b out sums → logs ≡ logs_of (take m (drop (b * frames) v))
-      → part ≡ tabulate (λ (i : ℕ). centred_at radius (take n (drop (b * count) (put_mid (b * count) n out logs))) (from + i)) count ++ drop count (take n (drop (b * count) (put_mid (b * count) n out logs)))
-      → next ≡ prefix_sums (take n (drop (b * count) (put_mid (b * count) n out logs)))
-      → length part ≡ n → Centred (b + 1) (put_mid (b * count) n (put_mid (b * count) n out logs) part) next
-  centred_more b m n {out} {sums} {logs} {part} {next} h k w f e p lent given told long = record {
-    bands = subst (λ (l : List Float). Fronted band_of left_of count (frames - count) d (b + 1) l) (sym (put_again at n out logs part fits size)) more;
-    last = told ∙ ap prefix_sums again ∙ sym (last_more s sums_of b);
-  }
-    where
-      at : ℕ
-      at = b * count
-
-      band : length (row frames v b) ≡ frames
-      band = simp (length-take, length-drop) (omega arith)
-
-      held : logs ≡ logs_of (row frames v b)
-      held = lent ∙ ap (λ (k : ℕ). logs_of (take k (drop (b * frames) v))) f
-
-      size : length logs ≡ n
-      size = ap length held ∙ length_logs (row frames v b) ∙ band ∙ omega arith
-
-      fits : at ≤ length out
-      fits = omega (arith, p.bands.size)
-
-      again : take n (drop at (put_mid at n out logs)) ≡ logs_of (row frames v b)
-      again = lent_again at n out logs fits size ∙ held
-
-      done : (take count part ≡ band_of b) × (drop count part ≡ left_of b)
-      done = centred_row radius from count (row frames v b) (rw band h) again given
-
-      more : Fronted band_of left_of count (frames - count) d (b + 1) (put_mid at n out part)
-      more = rw e (fronted_more band_of left_of count (frames - count) d b (at + frames) out part p.bands (omega arith) w (long ∙ e) done.0 done.1)
+  -- the part from b * count on was lent: it was filled with the logs of band b, and came back with these centred
+  pub centred_more : (b n : ℕ) {out sums logs part next : List Float} → from + count ≤ frames → b * frames + frames ≤ length v → b * count + frames ≤ length d
+      → n ≡ b * count + frames - b * count → Centred b out sums → logs ≡ logs_of (take (b * frames + frames - b * frames) (drop (b * frames) v))
+      → part ≡ tabulate (λ (i : ℕ). centred_at radius logs (from + i)) count ++ drop count logs → next ≡ prefix_sums logs → length part ≡ n → Centred (b + 1) (put_mid (b * count) n out part) next
+  centred_more b n {out} {logs = logs} {part = part} h k w e p lent given told long =
+      let at : ℕ = b * count in
+      let size : b * frames + frames - b * frames ≡ frames = omega arith in
+      let band : length (row frames v b) ≡ frames = simp (length-take, length-drop) (omega arith) in
+      let held : logs ≡ logs_of (row frames v b) = lent ∙ ap (λ (j : ℕ). logs_of (take j (drop (b * frames) v))) size in
+      let done = centred_row radius from count (row frames v b) (rw band h) held given in
+      record {
+        bands = rw e (fronted_more band_of left_of count (frames - count) d b (at + frames) out part p.bands (omega arith) w (long ∙ e) done.0 done.1);
+        last = told ∙ ap prefix_sums held ∙ sym (last_more s sums_of b);
+      }
 
 -- ---- the mean over frames that lie within the row
 pub inside : (sums : List Float) (first last : Float) (r i : ℕ) → r ≤ i → i + r + 1 < length sums

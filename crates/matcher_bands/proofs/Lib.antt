@@ -1,2 +1,4 @@
+pub mod BandLaws
 pub mod CentringLaws
 pub mod EnergyLaws
+pub mod TimelineLaws

@@ -1,1 +1,2 @@
 pub mod Centring
+pub mod Smoothed

@@ -4,4 +4,5 @@
 
 pub mod centring;
 pub mod energy;
+mod rows;
 pub mod timeline;

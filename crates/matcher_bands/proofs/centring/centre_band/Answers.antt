@@ -1,12 +1,12 @@
 -- `matcher_bands::centring::centre_band` meets its contract. Assumes nothing.
-use native.Mathlib.Omega.{arith}
+use Rattle.std.proofs.Common.{◌≡◌, Float, List, rules, refl, ap, drop, ◌++◌, ◌∙◌}
+use Rattle.matcher_bands.specs.Centring.{prefix_sums}
+use Rattle.matcher_bands.proofs.CentringLaws.{smoothed_row}
 use Rattle.matcher_bands.proofs.centring.centre_band.Goals as goal
 
-pub centre-requires : goal.centre-requires
-centre-requires c =
-    let sums = c.fill_sums in
-    let m = sums.auto.sums in
-    record { sums_len_1 = omega arith; sums_len_2 = omega arith; sums_len_3 = omega arith; sums_len_4 = omega arith; sums_value = sums.ensures }
-
-pub returns : goal.returns
-returns c = record { row_after = c.centre.ensures; sums_after = c.fill_sums.ensures }
+pub returns-clause-row_after : goal.returns-clause-row_after
+returns-clause-row_after c =
+    let a = c.args in
+    let v = a.row.now in
+    let sums : c.fill_sums.new.sums ≡ prefix_sums v = search rules in
+    c.centre.ensures ∙ ap (λ (l : List Float). l ++ drop a.count v) (smoothed_row a.radius a.from a.count v c.fill_sums.new.sums _ _ sums refl refl c.requires.row_room)

@@ -1,13 +1,7 @@
 -- `matcher_bands::centring::centre_bands` meets its contract. The loop's invariant: the rows of the bands passed stand at the front, then what is left of the last one's logs, and what lies past the places used is as it was.
 -- Assumes nothing.
-use mathlib.Core.Path.{◌≡◌}
-use Prim.Native.Nat.{◌-◌, ◌≤◌}
-use lib.ListN.{length}
 use Rattle.matcher_bands.proofs.CentringLaws.{Centred}
 use Rattle.matcher_bands.proofs.centring.centre_bands.Given as goal
 
 abbrev pub invariant-loop-b : goal.invariant-loop-b
-invariant-loop-b l = (l.b ≤ l.bands) × (length l.sums ≡ length l.initial.sums) × Centred l.frames l.radius l.from l.count l.values l.initial.out l.initial.sums l.b l.out l.sums
-
-abbrev pub decreases-loop-b : goal.decreases-loop-b
-decreases-loop-b l = l.bands - l.b
+invariant-loop-b l = Centred l.frames l.radius l.from l.count l.values l.initial.out l.initial.sums l.b l.out l.sums

@@ -1,16 +1,11 @@
-use mathlib.Core.Path.{◌≡◌, refl, sym, ap, ◌∙◌}
-use Prim.Native.Nat.{ℕ, ◌+◌, ◌-◌, ◌*◌, ◌≤◌}
-use native.Mathlib.Numerals.{add-one}
-use native.Mathlib.Omega.{arith}
-use mathlib.Core.List.{List, ◌++◌}
-use lib.ListN.{length, drop, length-drop, length-set}
+use Rattle.std.proofs.Common.{◌≡◌, ℕ, ◌-◌, ◌≤◌, ◌++◌, List, Float, drop, length, length-drop, sym, ap, ◌∙◌, add-one, arith}
+use Rattle.std.specs.Float.{nan}
 use lib.Seq.{take_all}
-use lib.Ieee.{Float, nan, of_bits}
 use Rattle.numbers_spec.specs.Rows.{tabulate}
+use Rattle.numbers_spec.proofs.RowLaws.{length_tabulate, filling_none, filling_more}
 use Rattle.matcher_spec.specs.Energy.{whole_energies}
-use Rattle.numbers_spec.proofs.RowLaws.{length_tabulate, row_within, filled_more}
-use Rattle.matcher_bands.proofs.CentringLaws.{tabulate_part}
 use Rattle.matcher_spec.specs.Limits.{bands_most}
+use Rattle.matcher_bands.proofs.CentringLaws.{tabulate_part}
 use Rattle.matcher_bands.proofs.energy.whole_energies.Goals as goal
 use Rattle.matcher_bands.proofs.energy.whole_energies.Invariants.{last, none}
 
@@ -21,47 +16,15 @@ left bands h =
     sym (take_all (bands_most - bands) (drop bands (tabulate none bands_most)) long) ∙ tabulate_part none nan bands_most bands (bands_most - bands) (omega arith)
 
 pub loop-b-init : goal.loop-b-init
-unfolding tabulate of_bits
-loop-b-init c = (omega arith, refl, refl)
-
-pub overflow_add-last : goal.overflow_add-last
-overflow_add-last c =
-    let within : let a = c.args in c.loop-b.b * (a.n + 1) + (a.n + 1) ≤ length a.energy.now =
-    omega (arith, row_within _ _ (c.args.n + 1) c.loop-b-test.true) in
-    omega (arith, within)
-
-pub overflow_mul-last : goal.overflow_mul-last
-overflow_mul-last c =
-    let within : let a = c.args in c.loop-b.b * (a.n + 1) + (a.n + 1) ≤ length a.energy.now =
-    omega (arith, row_within _ _ (c.args.n + 1) c.loop-b-test.true) in
-    omega (arith, within)
-
-pub overflow_add-last-in-loop-b : goal.overflow_add-last-in-loop-b
-overflow_add-last-in-loop-b c =
-    let within : let a = c.args in c.loop-b.b * (a.n + 1) + (a.n + 1) ≤ length a.energy.now =
-    omega (arith, row_within _ _ (c.args.n + 1) c.loop-b-test.true) in
-    omega (arith, within)
-
-pub offset_bounds-energy-last : goal.offset_bounds-energy-last
-offset_bounds-energy-last c =
-    let within : let a = c.args in c.loop-b.b * (a.n + 1) + (a.n + 1) ≤ length a.energy.now =
-    omega (arith, row_within _ _ (c.args.n + 1) c.loop-b-test.true) in
-    omega (arith, within)
-
-pub bounds-energy-last : goal.bounds-energy-last
-bounds-energy-last c =
-    let within : let a = c.args in c.loop-b.b * (a.n + 1) + (a.n + 1) ≤ length a.energy.now =
-    omega (arith, row_within _ _ (c.args.n + 1) c.loop-b-test.true) in
-    omega (arith, within)
+unfolding tabulate lib.Ieee.of_bits
+loop-b-init c = filling_none (last c.args.n c.args.energy.now) (tabulate none bands_most)
 
 pub loop-b-preserved : goal.loop-b-preserved
-loop-b-preserved c =
-    let a = c.args in
-    (omega arith, simp length-set c.loop-b.invariant.1, filled_more (last a.n a.energy.now) (tabulate none bands_most) c.loop-b.b c.loop-b.invariant.2 (rw add-one) (rw (length_tabulate none bands_most) (omega arith)))
+loop-b-preserved c = filling_more c.loop-b.invariant (rw add-one) (rw (length_tabulate none bands_most) (omega arith))
 
 pub returns : goal.returns
 unfolding whole_energies
 returns c =
     let a = c.args in
     let e : c.loop-b.b ≡ a.bands = omega arith in
-    rw e at c.loop-b.invariant.2 ∙ ap (λ (l : List Float). tabulate (last a.n a.energy.now) a.bands ++ l) (left a.bands (omega arith))
+    rw e at c.loop-b.invariant.front ∙ ap (λ (l : List Float). tabulate (last a.n a.energy.now) a.bands ++ l) (left a.bands (omega arith))

@@ -1,12 +1,9 @@
 -- `matcher_bands::energy::whole_energies` meets its contract. The loop's invariant: the whole energies of the bands passed are filled, the others 0.0. Assumes nothing.
-use mathlib.Core.Path.{◌≡◌}
-use Prim.Native.Nat.{ℕ, suc, ◌+◌, ◌-◌, ◌*◌, ◌≤◌}
-use mathlib.Core.List.{List}
-use lib.ListN.{length, get_or}
-use lib.Ieee.{Float, nan}
+use Rattle.std.proofs.Common.{ℕ, suc, ◌+◌, ◌*◌, List, Float, get_or}
+use Rattle.std.specs.Float.{nan}
 use Rattle.numbers_spec.specs.Arithmetic.{zero⁺}
 use Rattle.numbers_spec.specs.Rows.{tabulate}
-use Rattle.numbers_spec.proofs.RowLaws.{Filled}
+use Rattle.numbers_spec.proofs.RowLaws.{Filling}
 use Rattle.matcher_spec.specs.Limits.{bands_most}
 use Rattle.matcher_bands.proofs.energy.whole_energies.Given as goal
 
@@ -17,7 +14,4 @@ abbrev pub none : ℕ → Float
 none b = zero⁺
 
 abbrev pub invariant-loop-b : goal.invariant-loop-b
-invariant-loop-b l = (l.b ≤ l.bands) × (length l.whole ≡ bands_most) × Filled (last l.n l.energy) (tabulate none bands_most) l.b l.whole
-
-abbrev pub decreases-loop-b : goal.decreases-loop-b
-decreases-loop-b l = l.bands - l.b
+invariant-loop-b l = Filling (last l.n l.energy) (tabulate none bands_most) l.b l.whole

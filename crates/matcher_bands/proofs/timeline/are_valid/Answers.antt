@@ -1,24 +1,21 @@
-use mathlib.Core.Path.{◌≡◌, refl}
-use native.Mathlib.Omega.{arith}
-use lib.ListN.{length}
-use Rattle.numbers_spec.specs.Rows.{all_to}
-use Rattle.matcher_spec.specs.Timeline.{valid_values}
-use Rattle.numbers_spec.proofs.RowLaws.{all_next}
+-- `matcher_bands::timeline::are_valid` meets its contract. Assumes nothing.
+use Rattle.std.proofs.Common.{◌≡◌, Bool, true, ◌&&◌, ◌∷◌, [], Float, refl, sym, ap, rules, ◌∙◌}
+use Rattle.std.specs.List.{fold}
+use Rattle.std.proofs.lemmas.Fn.{fold_over}
+use Rattle.std.proofs.iter.Yields.{fronts, slice_gives}
+use Rattle.std.proofs.lemmas.List.Sums.{fold-append}
+use Rattle.matcher_spec.specs.Timeline.{valid_value, valid_values}
+use Rattle.matcher_bands.proofs.TimelineLaws.{all_folded}
 use Rattle.matcher_bands.proofs.timeline.are_valid.Goals as goal
-use Rattle.matcher_bands.proofs.timeline.are_valid.Invariants.{valid_at}
 
-pub loop-i-init : goal.loop-i-init
-unfolding all_to
-loop-i-init c = (omega arith, refl)
-
-pub loop-i-preserved : goal.loop-i-preserved
-loop-i-preserved c =
-    let v = c.args.values.now in
-    (omega arith, all_next (valid_at v) c.loop-i.i c.loop-i.invariant.1 c.is_valid-all.ensures)
+abbrev both : Bool → Float → Bool
+both all v = all && valid_value v
 
 pub returns : goal.returns
 unfolding valid_values
 returns c =
-    let v = c.args.values.now in
-    let e : c.loop-i.i ≡ length v = omega arith in
-    rw e at c.loop-i.invariant.1
+    fold_over fronts (λ y. y.now) _ (λ ys b. b ≡ fold both true ys) _
+    (λ ys a x b f' j k. let e : b ≡ both a x.now = search rules in (e ∙ ap (λ s. both s x.now) j ∙ sym (fold-append both true ys (x.now ∷ [])), search rules))
+    c.iter.result c.iter.result.rest.now true c.fold.result (slice_gives c.iter.result) refl c.fold.ensures.ran
+    ∙ ap (fold both true) c.iter.ensures.rest
+    ∙ all_folded valid_value c.args.values.now
