@@ -1,19 +1,24 @@
 // The matcher, for Rust to call. Sizes that do not fit are answered by `UNFIT`, and then nothing is
 // written.
-ghost use Rattle.std.specs.Prelude.{◌≤◌, drop, length, ◌++◌, ◌≡◌};
-ghost use Rattle.compare_exports.specs.MatcherCalls.{candidate_at, candidates_at, counted, fill_answer, filled_buffers, fits_bands, fits_fill_lengths, fits_limits, fits_local, fits_local_lengths, fits_margin, fits_whole, fits_window, found_in, found_near, margin_answer, margin_written, numbers_of, reference_of, written};
+ghost use Rattle.std.specs.Prelude.{IsTrue, true, ◌+◌, ◌*◌, ◌/◌, ◌<◌, ◌≤◌, drop, length, ◌++◌, ◌≡◌};
+ghost use Rattle.compare_exports.specs.MatcherCalls.{candidate_at, candidates_at, counted, eight_of, fill_answer, filled_buffers, fits_bands, fits_fill_lengths, fits_limits, fits_local, fits_margin, fits_whole, fits_window, found_in, found_near, margin_answer, margin_written, numbers_of, reference_of, written};
+ghost use Rattle.matcher_spec.specs.Centring.{wide_hop};
+ghost use Rattle.matcher_spec.specs.Energy.{Holds};
 ghost use Rattle.matcher_spec.specs.Index.{lent};
+ghost use Rattle.matcher_spec.specs.Search.{InRange};
 ghost use Rattle.matcher_spec.specs.Features.{features};
-ghost use Rattle.matcher_spec.specs.Limits.{frames_most, bands_most};
+ghost use Rattle.matcher_spec.specs.Limits.{bands_most, candidates_most, frames_most};
 
 use matcher::index::fill_index;
 use matcher::local::local_search;
 use matcher::whole::whole_search;
 use matcher_picks::candidates::margin;
+use matcher_spec::lent::{Features, Index};
 use matcher_spec::limits::{
     BANDS_MOST, CANDIDATES_MOST, FRAMES_MOST, HOP_LEAST, HOP_MOST, WINDOW_MOST,
 };
 use matcher_spec::types::{Candidate, MatchResult, Reference};
+use std::array;
 
 // The answer where a slice is too short or a number is out of its range.
 const UNFIT: usize = 255;
@@ -22,68 +27,69 @@ const UNFIT: usize = 255;
 const NUMBERS: usize = 40;
 
 // Whether a reference is within document 01's limits.
+#[tactic(auto, unfolding(crate::specs::MatcherCalls::fits_limits))]
 fn fits_limits(bands: usize, frames: usize, hop: f64) -> bool
-    ensures { result ≡ fits_limits bands frames hop }
+    ensures value { result ≡ fits_limits bands frames hop }
+    ensures within { IsTrue result → (0 < bands) × (bands ≤ bands_most) × (frames ≤ frames_most) × (wide_hop hop ≡ true) }
 {
-    (bands > 0)
-        & ((bands <= BANDS_MOST)
-            & ((frames <= FRAMES_MOST) & ((hop >= HOP_LEAST) & (hop <= HOP_MOST))))
+    bands > 0 && bands <= BANDS_MOST && frames <= FRAMES_MOST && hop >= HOP_LEAST && hop <= HOP_MOST
 }
 
 // Whether slices of these lengths hold n values a band, and their energies.
+#[tactic(auto, using(crate::proofs::FitLaws::few), unfolding(crate::specs::MatcherCalls::fits_bands))]
 fn fits_bands(bands: usize, n: usize, values: usize, energy: usize) -> bool
-    requires fact_1 { bands ≤ bands_most }
-    requires fact_2 { n ≤ frames_most }
-    ensures { result ≡ fits_bands bands n values energy }
+    requires few { bands ≤ bands_most }
+    requires short { n ≤ frames_most }
+    ensures value { result ≡ fits_bands bands n values energy }
+    ensures room { IsTrue result → (bands * n ≤ values) × (bands * (n + 1) ≤ energy) }
 {
-    (bands * n <= values) & (bands * (n + 1) <= energy)
+    bands * n <= values && bands * (n + 1) <= energy
 }
 
 // Whether the lengths of a window's slices and of the working buffers are enough.
-fn fits_window(
-    frames: usize,
-    bands: usize,
-    times: usize,
-    values: usize,
-    work32: usize,
-    work64: usize,
-) -> bool
+#[tactic(auto, using(crate::proofs::FitLaws::few), unfolding(crate::specs::MatcherCalls::fits_window))]
+fn fits_window(frames: usize, window: &Features<'_>, work32: usize, work64: usize) -> bool
     requires { frames ≤ frames_most }
-    ensures { result ≡ fits_window frames bands times values work32 work64 }
+    ensures value { result ≡ fits_window frames window.now.bands (length window.now.times) (length window.now.values) work32 work64 }
+    ensures whole { IsTrue result → length window.now.values ≡ window.now.bands * length window.now.times }
+    ensures room { IsTrue result → (2 * (window.now.bands * length window.now.times) ≤ work32) × (3 * (window.now.bands * (length window.now.times + 1)) + frames ≤ work64) }
 {
-    if bands > BANDS_MOST {
-        return false;
-    }
-    if times > WINDOW_MOST {
-        return false;
-    }
-    (values == bands * times)
-        & ((2 * (bands * times) <= work32) & (3 * (bands * (times + 1)) + frames <= work64))
+    let bands = window.bands;
+    let times = window.times.len();
+    bands <= BANDS_MOST
+        && times <= WINDOW_MOST
+        && window.values.len() == bands * times
+        && 2 * (bands * times) <= work32
+        && 3 * (bands * (times + 1)) + frames <= work64
 }
 
 // Whether the index can be filled.
+#[tactic(auto, unfolding(crate::specs::MatcherCalls::fits_fill_lengths))]
 fn fits_fill(
     hop: f64,
-    bands: usize,
-    times: usize,
-    values: usize,
+    reference: &Features<'_>,
     fine: usize,
     coarse: usize,
     fine_energy: usize,
     coarse_energy: usize,
 ) -> bool
-    ensures { result ≡ fits_fill_lengths hop bands times values fine coarse fine_energy coarse_energy }
+    ensures value { result ≡ fits_fill_lengths hop reference.now.bands (length reference.now.times) (length reference.now.values) fine coarse fine_energy coarse_energy }
+    ensures wide { IsTrue result → wide_hop hop ≡ true }
+    ensures whole { IsTrue result → length reference.now.values ≡ reference.now.bands * length reference.now.times }
+    ensures fine_room { IsTrue result → (reference.now.bands * length reference.now.times ≤ fine) × (reference.now.bands * (length reference.now.times + 1) ≤ fine_energy) }
+    ensures coarse_room { IsTrue result → (reference.now.bands * (length reference.now.times / 4) ≤ coarse) × (reference.now.bands * (length reference.now.times / 4 + 1) ≤ coarse_energy) }
 {
-    if !fits_limits(bands, times, hop) {
-        return false;
-    }
-    (values == bands * times)
-        & (fits_bands(bands, times, fine, fine_energy)
-            & fits_bands(bands, times / 4, coarse, coarse_energy))
+    let bands = reference.bands;
+    let times = reference.times.len();
+    fits_limits(bands, times, hop)
+        && reference.values.len() == bands * times
+        && fits_bands(bands, times, fine, fine_energy)
+        && fits_bands(bands, times / 4, coarse, coarse_energy)
 }
 
 // Fills the index and answers 1, or answers 0 where the reference is rejected.
 #[unsafe(no_mangle)]
+#[tactic(auto, unfolding(crate::specs::MatcherCalls::fill_answer, crate::specs::MatcherCalls::filled_buffers))]
 pub extern "C" fn matcher_fill_index(
     fine: &mut [f32],
     coarse: &mut [f32],
@@ -100,11 +106,14 @@ pub extern "C" fn matcher_fill_index(
     ensures fine_energy_after { fine_energy.new ≡ (filled_buffers hop bands times.now values.now (lent fine.old coarse.old fine_energy.old coarse_energy.old)).fine_energy }
     ensures coarse_energy_after { coarse_energy.new ≡ (filled_buffers hop bands times.now values.now (lent fine.old coarse.old fine_energy.old coarse_energy.old)).coarse_energy }
 {
+    let reference = Features {
+        bands,
+        times,
+        values,
+    };
     if !fits_fill(
         hop,
-        bands,
-        times.len(),
-        values.len(),
+        &reference,
         fine.len(),
         coarse.len(),
         fine_energy.len(),
@@ -112,96 +121,92 @@ pub extern "C" fn matcher_fill_index(
     ) {
         return UNFIT;
     }
-    if fill_index(
-        fine,
-        coarse,
-        fine_energy,
-        coarse_energy,
-        bands,
-        hop,
-        times,
-        values,
-    ) {
+    if fill_index(fine, coarse, fine_energy, coarse_energy, hop, &reference) {
         return 1;
     }
     0
 }
 
-// Writes the numbers of the eight candidates, five each.
-fn write_candidates(out: &mut [f64], res: MatchResult)
-    requires { 40 ≤ length out.old }
-    ensures { out.new ≡ numbers_of res.candidates ++ drop 40 out.old }
+// The candidates found, and blank ones behind the last.
+fn eight_of(found: &MatchResult) -> [Candidate; CANDIDATES_MOST]
+    ensures { result ≡ eight_of found.now.items }
 {
-    let candidates = res.candidates;
-    let mut i = 0usize;
-    while i < CANDIDATES_MOST {
-        let c = candidates[i];
+    let mut eight = [Candidate::default(); CANDIDATES_MOST];
+    eight[..found.len()].copy_from_slice(found);
+    eight
+}
+
+// Writes the numbers of eight candidates, five each: zeros behind the last found.
+fn write_candidates(out: &mut [f64], found: &MatchResult)
+    requires { 40 ≤ length out.old }
+    ensures { out.new ≡ numbers_of (eight_of found.now.items) ++ drop 40 out.old }
+{
+    let eight = eight_of(found);
+    for i in 0..CANDIDATES_MOST {
+        let c = eight[i];
+        let numbers = [
+            c.offset_ms,
+            c.score,
+            c.first_half_score,
+            c.second_half_score,
+            c.recent_score,
+        ];
         let at = i * 5;
-        out[at] = c.offset_ms;
-        out[at + 1] = c.score;
-        out[at + 2] = c.first_half_score;
-        out[at + 3] = c.second_half_score;
-        out[at + 4] = c.recent_score;
-        i += 1;
+        out[at..at + 5].copy_from_slice(&numbers);
     }
 }
 
-// Whether a local search fits.
+// Whether a local search fits: it reads the fine half of the index.
+#[tactic(auto, unfolding(crate::specs::MatcherCalls::fits_local_lengths))]
 fn fits_local(
     reference: Reference,
-    fine: usize,
-    energy: usize,
-    bands: usize,
-    times: usize,
-    values: usize,
+    index: &Index<'_>,
+    window: &Features<'_>,
     work32: usize,
     work64: usize,
     out: usize,
 ) -> bool
-    ensures { result ≡ fits_local_lengths reference fine energy bands times values work32 work64 out }
+    ensures value { result ≡ fits_local reference index.now.fine index.now.fine_energy window.now work32 work64 out }
+    ensures in_range { IsTrue result → InRange reference }
+    ensures holds { IsTrue result → Holds reference.bands reference.frames index.now.fine index.now.fine_energy }
+    ensures whole { IsTrue result → length window.now.values ≡ window.now.bands * length window.now.times }
+    ensures room { IsTrue result → (2 * (window.now.bands * length window.now.times) ≤ work32) × (3 * (window.now.bands * (length window.now.times + 1)) + reference.frames ≤ work64) × (40 ≤ out) }
 {
-    if !fits_limits(reference.bands, reference.frames, reference.hop_ms) {
-        return false;
-    }
-    fits_window(reference.frames, bands, times, values, work32, work64)
-        & (fits_bands(reference.bands, reference.frames, fine, energy) & (NUMBERS <= out))
+    fits_limits(reference.bands, reference.frames, reference.hop_ms)
+        && fits_window(reference.frames, window, work32, work64)
+        && fits_bands(
+            reference.bands,
+            reference.frames,
+            index.fine.len(),
+            index.fine_energy.len(),
+        )
+        && NUMBERS <= out
 }
 
-// The reference that a call's numbers make, and whether a search of it fits.
-#[derive(Clone, Copy)]
-struct Made {
+// Whether a whole search fits.
+#[tactic(auto, unfolding(crate::specs::MatcherCalls::fits_whole))]
+fn fits_whole(
     reference: Reference,
-    fits: bool,
-}
-
-// Makes and tests the reference of both searches.
-fn made_reference(
-    reference_bands: usize,
-    frames: usize,
-    start: f64,
-    hop: f64,
-    fine: usize,
-    energy: usize,
-    bands: usize,
-    times: usize,
-    values: usize,
+    index: &Index<'_>,
+    window: &Features<'_>,
     work32: usize,
     work64: usize,
     out: usize,
-) -> Made
-    ensures reference_value { result.reference ≡ reference_of reference_bands frames start hop }
-    ensures fits_value { result.fits ≡ fits_local_lengths (reference_of reference_bands frames start hop) fine energy bands times values work32 work64 out }
+) -> bool
+    ensures value { result ≡ fits_whole reference index.now window.now work32 work64 out }
+    ensures in_range { IsTrue result → InRange reference }
+    ensures holds { IsTrue result → Holds reference.bands reference.frames index.now.fine index.now.fine_energy }
+    ensures holds_2 { IsTrue result → Holds reference.bands (reference.frames / 4) index.now.coarse index.now.coarse_energy }
+    ensures whole { IsTrue result → length window.now.values ≡ window.now.bands * length window.now.times }
+    ensures room { IsTrue result → (2 * (window.now.bands * length window.now.times) ≤ work32) × (3 * (window.now.bands * (length window.now.times + 1)) + reference.frames ≤ work64) × (40 ≤ out) }
 {
-    let reference = Reference {
-        bands: reference_bands,
-        frames,
-        start_ms: start,
-        hop_ms: hop,
-    };
-    let fits = fits_local(
-        reference, fine, energy, bands, times, values, work32, work64, out,
-    );
-    Made { reference, fits }
+    fits_local(reference, index, window, work32, work64, out)
+        && fits_bands(
+            reference.bands,
+            reference.frames / 4,
+            index.coarse.len(),
+            index.coarse_energy.len(),
+        )
 }
 
 // The candidates of the whole reference: their number is the answer.
@@ -225,46 +230,36 @@ pub extern "C" fn matcher_whole_search(
     ensures value { result ≡ counted (fits_whole (reference_of reference_bands frames start hop) (lent fine.now coarse.now fine_energy.now coarse_energy.now) (features bands times.now values.now) (length work32.old) (length work64.old) (length out.old)) (found_in (reference_of reference_bands frames start hop) (lent fine.now coarse.now fine_energy.now coarse_energy.now) (features bands times.now values.now)) }
     ensures out_after { out.new ≡ written (fits_whole (reference_of reference_bands frames start hop) (lent fine.now coarse.now fine_energy.now coarse_energy.now) (features bands times.now values.now) (length work32.old) (length work64.old) (length out.old)) (found_in (reference_of reference_bands frames start hop) (lent fine.now coarse.now fine_energy.now coarse_energy.now) (features bands times.now values.now)) out.old }
 {
-    let made = made_reference(
-        reference_bands,
+    let reference = Reference {
+        bands: reference_bands,
         frames,
-        start,
-        hop,
-        fine.len(),
-        fine_energy.len(),
-        bands,
-        times.len(),
-        values.len(),
-        work32.len(),
-        work64.len(),
-        out.len(),
-    );
-    if !made.fits {
-        return UNFIT;
-    }
-    let reference = made.reference;
-    if !fits_bands(
-        reference_bands,
-        frames / 4,
-        coarse.len(),
-        coarse_energy.len(),
-    ) {
-        return UNFIT;
-    }
-    let found = whole_search(
+        start_ms: start,
+        hop_ms: hop,
+    };
+    let index = Index {
         fine,
         coarse,
         fine_energy,
         coarse_energy,
-        reference,
+    };
+    let window = Features {
         bands,
         times,
         values,
-        work32,
-        work64,
-    );
-    write_candidates(out, found);
-    found.count
+    };
+    if !fits_whole(
+        reference,
+        &index,
+        &window,
+        work32.len(),
+        work64.len(),
+        out.len(),
+    ) {
+        return UNFIT;
+    }
+    let found = whole_search(&index, reference, &window, work32, work64);
+    write_candidates(out, &found);
+    found.len()
 }
 
 // The best candidate of an offset range: 1 or 0 is the answer.
@@ -288,32 +283,41 @@ pub extern "C" fn matcher_local_search(
     ensures value { result ≡ counted (fits_local (reference_of reference_bands frames start hop) fine.now energy.now (features bands times.now values.now) (length work32.old) (length work64.old) (length out.old)) (found_near (reference_of reference_bands frames start hop) fine.now energy.now (features bands times.now values.now) lower upper) }
     ensures out_after { out.new ≡ written (fits_local (reference_of reference_bands frames start hop) fine.now energy.now (features bands times.now values.now) (length work32.old) (length work64.old) (length out.old)) (found_near (reference_of reference_bands frames start hop) fine.now energy.now (features bands times.now values.now) lower upper) out.old }
 {
-    let made = made_reference(
-        reference_bands,
+    let reference = Reference {
+        bands: reference_bands,
         frames,
-        start,
-        hop,
-        fine.len(),
-        energy.len(),
+        start_ms: start,
+        hop_ms: hop,
+    };
+    // A local search reads no coarse half.
+    let index = Index {
+        fine,
+        coarse: &fine[..0],
+        fine_energy: energy,
+        coarse_energy: &energy[..0],
+    };
+    let window = Features {
         bands,
-        times.len(),
-        values.len(),
+        times,
+        values,
+    };
+    if !fits_local(
+        reference,
+        &index,
+        &window,
         work32.len(),
         work64.len(),
         out.len(),
-    );
-    if !made.fits {
+    ) {
         return UNFIT;
     }
-    let reference = made.reference;
-    let found = local_search(
-        fine, energy, reference, bands, times, values, lower, upper, work32, work64,
-    );
-    write_candidates(out, found);
-    found.count
+    let found = local_search(&index, reference, &window, lower, upper, work32, work64);
+    write_candidates(out, &found);
+    found.len()
 }
 
 // The candidate that the numbers from i on make.
+#[tactic(auto, unfolding(crate::specs::MatcherCalls::candidate_at))]
 fn candidate_at(numbers: &[f64], i: usize) -> Candidate
     requires fact_1 { i ≤ 35 }
     requires fact_2 { 40 ≤ length numbers.now }
@@ -329,27 +333,21 @@ fn candidate_at(numbers: &[f64], i: usize) -> Candidate
 }
 
 // The eight candidates whose numbers a search has written.
+#[tactic(auto, unfolding(crate::specs::MatcherCalls::candidates_at))]
 fn candidates_at(numbers: &[f64]) -> [Candidate; CANDIDATES_MOST]
     requires { 40 ≤ length numbers.now }
     ensures { result ≡ candidates_at numbers.now }
 {
-    [
-        candidate_at(numbers, 0),
-        candidate_at(numbers, 5),
-        candidate_at(numbers, 10),
-        candidate_at(numbers, 15),
-        candidate_at(numbers, 20),
-        candidate_at(numbers, 25),
-        candidate_at(numbers, 30),
-        candidate_at(numbers, 35),
-    ]
+    array::from_fn(|i| candidate_at(numbers, i * 5))
 }
 
 // Whether a margin can be told: at most 8 candidates, the numbers of 8, and room for one number.
+#[tactic(auto, unfolding(crate::specs::MatcherCalls::fits_margin))]
 fn fits_margin(numbers: usize, count: usize, out: usize) -> bool
-    ensures { result ≡ fits_margin numbers count out }
+    ensures value { result ≡ fits_margin numbers count out }
+    ensures room { IsTrue result → (count ≤ candidates_most) × (40 ≤ numbers) × (0 < out) }
 {
-    (count <= CANDIDATES_MOST) & ((NUMBERS <= numbers) & (out > 0))
+    count <= CANDIDATES_MOST && NUMBERS <= numbers && out > 0
 }
 
 // Writes the margin of the first `count` candidates, whose numbers stand as a search writes them, and
@@ -363,6 +361,6 @@ pub extern "C" fn matcher_margin(numbers: &[f64], count: usize, out: &mut [f64])
         return UNFIT;
     }
     let candidates = candidates_at(numbers);
-    out[0] = margin(MatchResult { candidates, count });
+    out[0] = margin(&candidates[..count]);
     1
 }
