@@ -81,10 +81,8 @@ fn is_valid_search_time(t: RecordedMs) -> bool
 fn is_valid_lock(l: Lock) -> bool
     ensures { result ≡ valid_lock l }
 {
-    let pending = l.pending;
-    let accepted = l.accepted;
-    let search = l.last_global_search_ms;
-    is_valid_hypothesis(pending) & (is_valid_hypothesis(accepted) & is_valid_search_time(search))
+    is_valid_hypothesis(l.pending)
+        & (is_valid_hypothesis(l.accepted) & is_valid_search_time(l.last_global_search_ms))
 }
 
 // A reading is finite, however large.
@@ -100,10 +98,8 @@ fn is_valid_milestone(m: Option<ClockMs>) -> bool
 fn are_valid_milestones(m: Milestones) -> bool
     ensures { result ≡ valid_milestones m }
 {
-    let first = m.first_provisional_ms;
-    let confirmed = m.confirmed_ms;
-    let last = m.final_ms;
-    is_valid_milestone(first) & (is_valid_milestone(confirmed) & is_valid_milestone(last))
+    is_valid_milestone(m.first_provisional_ms)
+        & (is_valid_milestone(m.confirmed_ms) & is_valid_milestone(m.final_ms))
 }
 
 // The last computed window's endpoint.
@@ -129,13 +125,10 @@ fn is_valid_estimate(e: Option<Estimate>) -> bool
 fn milestones_shown(s: Snapshot) -> Milestones
     ensures { result ≡ milestones_shown s }
 {
-    let first_provisional_ms = s.first_provisional_lock_elapsed_ms;
-    let confirmed_ms = s.confirmed_lock_elapsed_ms;
-    let final_ms = s.final_lock_elapsed_ms;
     Milestones {
-        first_provisional_ms,
-        confirmed_ms,
-        final_ms,
+        first_provisional_ms: s.first_provisional_lock_elapsed_ms,
+        confirmed_ms: s.confirmed_lock_elapsed_ms,
+        final_ms: s.final_lock_elapsed_ms,
     }
 }
 
@@ -144,10 +137,8 @@ fn milestones_shown(s: Snapshot) -> Milestones
 fn is_valid_snapshot(s: Snapshot) -> bool
     ensures { result ≡ valid_snapshot s }
 {
-    let estimate = s.estimate;
-    let milestones = milestones_shown(s);
-    let shown = s.diagnostics.candidate_count;
-    (shown <= CANDIDATES_MOST) & (is_valid_estimate(estimate) & are_valid_milestones(milestones))
+    (s.diagnostics.candidate_count <= CANDIDATES_MOST)
+        & (is_valid_estimate(s.estimate) & are_valid_milestones(milestones_shown(s)))
 }
 
 // Where there is no last snapshot, nothing is asked of one.
@@ -155,9 +146,7 @@ fn is_valid_snapshot(s: Snapshot) -> bool
 fn is_valid_last(l: Last) -> bool
     ensures { result ≡ valid_last l }
 {
-    let endpoint = l.endpoint_ms;
-    let snapshot = l.snapshot;
-    is_valid_endpoint(endpoint) & (!l.has_snapshot | is_valid_snapshot(snapshot))
+    is_valid_endpoint(l.endpoint_ms) & (!l.has_snapshot | is_valid_snapshot(l.snapshot))
 }
 
 // 7: everything that a state holds.
@@ -165,12 +154,8 @@ fn is_valid_last(l: Last) -> bool
 pub fn is_valid_engine(e: Engine) -> bool
     ensures { result ≡ valid_engine e }
 {
-    let configuration = e.configuration;
-    let settings = e.settings;
-    let lock = e.lock;
-    let milestones = e.milestones;
-    let last = e.last;
-    is_valid_configuration(configuration)
-        & (is_valid_settings(settings)
-            & (is_valid_lock(lock) & (are_valid_milestones(milestones) & is_valid_last(last))))
+    is_valid_configuration(e.configuration)
+        & (is_valid_settings(e.settings)
+            & (is_valid_lock(e.lock)
+                & (are_valid_milestones(e.milestones) & is_valid_last(e.last))))
 }
