@@ -1,3 +1,4 @@
 pub mod Laws
 pub mod EightRows
+pub mod Made
 pub mod Lengths

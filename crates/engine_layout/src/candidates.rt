@@ -8,6 +8,7 @@ use crate::rows::put;
 use crate::word::Word;
 use engine_spec::types::CandidateDiagnostics;
 use matcher_spec::limits::CANDIDATES_MOST;
+use std::array;
 
 #[tactic(auto, unfolding(crate::specs::Layout::candidate_of, crate::specs::Written::candidate_words))]
 pub fn candidate_words(c: CandidateDiagnostics) -> [u64; 5]
@@ -57,14 +58,5 @@ pub fn candidates_of(words: &[u64]) -> [CandidateDiagnostics; CANDIDATES_MOST]
     requires { length words.now ≡ 40 }
     ensures { result ≡ candidates_of words.now }
 {
-    [
-        candidate_of(&words[0..5]),
-        candidate_of(&words[5..10]),
-        candidate_of(&words[10..15]),
-        candidate_of(&words[15..20]),
-        candidate_of(&words[20..25]),
-        candidate_of(&words[25..30]),
-        candidate_of(&words[30..35]),
-        candidate_of(&words[35..40]),
-    ]
+    array::from_fn(|i| candidate_of(&words[5 * i..5 * i + 5]))
 }

@@ -130,17 +130,7 @@ impl Word for State {
     ghost of_word = { state_of };
 
     fn to_word(self) -> u64 {
-        match self {
-            State::Ready => 0,
-            State::Listening => 1,
-            State::Locking => 2,
-            State::Confirmed => 3,
-            State::Locked => 4,
-            State::Drifting => 5,
-            State::Relocking => 6,
-            State::Lost => 7,
-            State::Failed => 8,
-        }
+        self as u64
     }
 
     fn from_word(n: u64) -> State {
@@ -165,12 +155,7 @@ impl Word for LockPhase {
     ghost of_word = { phase_of };
 
     fn to_word(self) -> u64 {
-        match self {
-            LockPhase::None => 0,
-            LockPhase::Provisional => 1,
-            LockPhase::Confirmed => 2,
-            LockPhase::Final => 3,
-        }
+        self as u64
     }
 
     fn from_word(n: u64) -> LockPhase {
@@ -190,14 +175,7 @@ impl Word for Stage {
     ghost of_word = { stage_of };
 
     fn to_word(self) -> u64 {
-        match self {
-            Stage::Readiness => 0,
-            Stage::LandmarkCoarse => 1,
-            Stage::FastTimingVerify => 2,
-            Stage::RobustVerify => 3,
-            Stage::Tracking => 4,
-            Stage::Relock => 5,
-        }
+        self as u64
     }
 
     fn from_word(n: u64) -> Stage {
@@ -220,19 +198,7 @@ impl Word for Option<WithholdReason> {
     ghost of_word = { reason_of };
 
     fn to_word(self) -> u64 {
-        match self {
-            None => 0,
-            Some(WithholdReason::InsufficientDuration) => 1,
-            Some(WithholdReason::InsufficientEnergy) => 2,
-            Some(WithholdReason::InsufficientActiveFrames) => 3,
-            Some(WithholdReason::InsufficientLandmarkEvidence) => 4,
-            Some(WithholdReason::WeakAlignmentPeak) => 5,
-            Some(WithholdReason::AmbiguousOffset) => 6,
-            Some(WithholdReason::UnstableTrackingResidual) => 7,
-            Some(WithholdReason::LostSignal) => 8,
-            Some(WithholdReason::DecodeFailed) => 9,
-            Some(WithholdReason::IndexUnavailable) => 10,
-        }
+        self.map_or(0, |r| 1 + r as u64)
     }
 
     fn from_word(n: u64) -> Option<WithholdReason> {

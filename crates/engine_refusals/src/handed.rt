@@ -22,10 +22,10 @@ fn index_fits(frames: usize, bands: usize, index: &Index<'_>) -> bool
     requires few_bands { bands < 2 ^ 16 }
     ensures { result ≡ index_fits frames bands index.now }
 {
-    (bands * frames <= index.fine.len())
-        & ((bands * (frames / 4) <= index.coarse.len())
-            & ((bands * (frames + 1) <= index.fine_energy.len())
-                & (bands * (frames / 4 + 1) <= index.coarse_energy.len())))
+    bands * frames <= index.fine.len()
+        && bands * (frames / 4) <= index.coarse.len()
+        && bands * (frames + 1) <= index.fine_energy.len()
+        && bands * (frames / 4 + 1) <= index.coarse_energy.len()
 }
 
 // 1 to 6, in document 01's order. Sizes are tested before any product of them.
@@ -84,9 +84,10 @@ fn is_valid_window(window: &Window<'_>) -> bool
     ensures { result ≡ valid_window window.now }
 {
     let n = window.times.len();
-    (0 < window.bands)
-        & ((window.energies.len() == n)
-            & ((window.values.len() == window.bands * n) & are_valid(window.values)))
+    0 < window.bands
+        && window.energies.len() == n
+        && window.values.len() == window.bands * n
+        && are_valid(window.values)
 }
 
 // 9 to 12: a window alone. Sizes are tested before any product of them.
@@ -98,19 +99,13 @@ pub fn check_window(window: &Window<'_>) -> Result<(), Refusal>
     if n == 0 {
         return Err(Refusal::NoFrames);
     }
-    if WINDOW_MOST < n {
-        return Err(Refusal::WindowTooLarge);
-    }
-    if BANDS_MOST < window.bands {
+    if WINDOW_MOST < n || BANDS_MOST < window.bands {
         return Err(Refusal::WindowTooLarge);
     }
     if !is_valid_window(window) {
         return Err(Refusal::WindowInvalid);
     }
-    if !are_near(window.times) {
-        return Err(Refusal::WindowTimeOutOfRange);
-    }
-    if !are_valid_energies(window.energies) {
+    if !are_near(window.times) || !are_valid_energies(window.energies) {
         return Err(Refusal::WindowTimeOutOfRange);
     }
     Ok(())
@@ -130,7 +125,7 @@ fn work_fits(
     requires few_reference_frames { reference_frames < 2 ^ 16 }
     ensures { result ≡ work_fits bands frames reference_frames room32 room64 }
 {
-    (2 * (bands * frames) <= room32) & (3 * (bands * (frames + 1)) + reference_frames <= room64)
+    2 * (bands * frames) <= room32 && 3 * (bands * (frames + 1)) + reference_frames <= room64
 }
 
 // 6 and 8 to 13: what may be refused of a submission to a state with these settings.

@@ -10,7 +10,7 @@ use numbers::float::is_finite;
 pub fn is_within(limit: f64, x: f64) -> bool
     ensures { result ≡ within limit x }
 {
-    (-limit <= x) & (x <= limit)
+    -limit <= x && x <= limit
 }
 
 // A time that is finite and within ±10^12.
@@ -31,7 +31,7 @@ pub fn is_track_number(x: f64) -> bool
 fn is_near_or_not_finite(t: f64) -> bool
     ensures { result ≡ near_or_not_finite t }
 {
-    !is_finite(t) | is_near(t)
+    !is_finite(t) || is_near(t)
 }
 
 // An energy is a number below plus infinity; minus infinity passes.
@@ -45,7 +45,7 @@ fn is_valid_energy(x: f64) -> bool
 pub fn is_hop(hop: f64) -> bool
     ensures { result ≡ hop_in_range hop }
 {
-    (HOP_LEAST <= hop) & (hop <= HOP_MOST)
+    HOP_LEAST <= hop && hop <= HOP_MOST
 }
 
 // Whether every time is near.

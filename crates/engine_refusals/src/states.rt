@@ -15,7 +15,7 @@ use numbers::float::is_finite;
 fn is_valid_duration(d: f64) -> bool
     ensures { result ≡ valid_duration d }
 {
-    is_finite(d) & (d > 0.0)
+    is_finite(d) && d > 0.0
 }
 
 // 1: `Configuration::validate`.
@@ -24,25 +24,25 @@ pub fn is_valid_configuration(c: Configuration) -> bool
     ensures { result ≡ valid_configuration c }
 {
     is_valid_duration(c.minimum_readiness_duration_ms)
-        & (is_valid_duration(c.tracking_query_duration_ms)
-            & (is_finite(c.minimum_active_frame_energy_dbfs)
-                & (is_finite(c.minimum_average_energy_dbfs)
-                    & ((c.minimum_active_frame_fraction >= 0.0)
-                        & (c.minimum_active_frame_fraction <= 1.0)))))
+        && is_valid_duration(c.tracking_query_duration_ms)
+        && is_finite(c.minimum_active_frame_energy_dbfs)
+        && is_finite(c.minimum_average_energy_dbfs)
+        && c.minimum_active_frame_fraction >= 0.0
+        && c.minimum_active_frame_fraction <= 1.0
 }
 
 // 3: the reference's size.
 pub fn are_counts(frames: usize, bands: usize) -> bool
     ensures { result ≡ counts_in_range frames bands }
 {
-    (frames <= FRAMES_MOST) & (bands <= BANDS_MOST)
+    frames <= FRAMES_MOST && bands <= BANDS_MOST
 }
 
 // Frames and bands: both 0, or neither.
 fn is_both_or_neither(frames: usize, bands: usize) -> bool
     ensures { result ≡ both_or_neither frames bands }
 {
-    ((frames == 0) & (bands == 0)) | ((0 < frames) & (0 < bands))
+    (frames == 0 && bands == 0) || (0 < frames && 0 < bands)
 }
 
 // What is fixed at opening.
@@ -53,8 +53,9 @@ fn is_valid_settings(s: Settings) -> bool
     let frames = s.reference_frames as usize;
     let bands = s.reference_bands as usize;
     is_hop(s.hop_ms)
-        & (are_counts(frames, bands)
-            & (is_both_or_neither(frames, bands) & is_near(s.reference_start_ms.0)))
+        && are_counts(frames, bands)
+        && is_both_or_neither(frames, bands)
+        && is_near(s.reference_start_ms.0)
 }
 
 // All four numbers of a place.
@@ -64,8 +65,9 @@ fn is_valid_hypothesis(h: Option<Hypothesis>) -> bool
 {
     h.is_none_or(|h| {
         is_track_number(h.offset_ms)
-            & (is_track_number(h.first_evidence_ms.0)
-                & (is_track_number(h.last_evidence_ms.0) & is_track_number(h.correlation)))
+            && is_track_number(h.first_evidence_ms.0)
+            && is_track_number(h.last_evidence_ms.0)
+            && is_track_number(h.correlation)
     })
 }
 
@@ -73,7 +75,7 @@ fn is_valid_hypothesis(h: Option<Hypothesis>) -> bool
 fn is_valid_search_time(t: RecordedMs) -> bool
     ensures { result ≡ valid_search_time t }
 {
-    is_near(t.0) | (t.0 == f64::NEG_INFINITY)
+    is_near(t.0) || t.0 == f64::NEG_INFINITY
 }
 
 // Pending, accepted and the search time.
@@ -81,10 +83,9 @@ fn is_valid_search_time(t: RecordedMs) -> bool
 fn is_valid_lock(l: Lock) -> bool
     ensures { result ≡ valid_lock l }
 {
-    let pending = l.pending;
-    let accepted = l.accepted;
-    let search = l.last_global_search_ms;
-    is_valid_hypothesis(pending) & (is_valid_hypothesis(accepted) & is_valid_search_time(search))
+    is_valid_hypothesis(l.pending)
+        && is_valid_hypothesis(l.accepted)
+        && is_valid_search_time(l.last_global_search_ms)
 }
 
 // A reading is finite, however large.
@@ -100,10 +101,9 @@ fn is_valid_milestone(m: Option<ClockMs>) -> bool
 fn are_valid_milestones(m: Milestones) -> bool
     ensures { result ≡ valid_milestones m }
 {
-    let first = m.first_provisional_ms;
-    let confirmed = m.confirmed_ms;
-    let last = m.final_ms;
-    is_valid_milestone(first) & (is_valid_milestone(confirmed) & is_valid_milestone(last))
+    is_valid_milestone(m.first_provisional_ms)
+        && is_valid_milestone(m.confirmed_ms)
+        && is_valid_milestone(m.final_ms)
 }
 
 // The last computed window's endpoint.
@@ -121,7 +121,8 @@ fn is_valid_estimate(e: Option<Estimate>) -> bool
 {
     e.is_none_or(|e| {
         is_track_number(e.query_endpoint_recorded_time_ms.0)
-            & (is_track_number(e.reference_time_ms.0) & is_track_number(e.offset_ms))
+            && is_track_number(e.reference_time_ms.0)
+            && is_track_number(e.offset_ms)
     })
 }
 
@@ -129,13 +130,10 @@ fn is_valid_estimate(e: Option<Estimate>) -> bool
 fn milestones_shown(s: Snapshot) -> Milestones
     ensures { result ≡ milestones_shown s }
 {
-    let first_provisional_ms = s.first_provisional_lock_elapsed_ms;
-    let confirmed_ms = s.confirmed_lock_elapsed_ms;
-    let final_ms = s.final_lock_elapsed_ms;
     Milestones {
-        first_provisional_ms,
-        confirmed_ms,
-        final_ms,
+        first_provisional_ms: s.first_provisional_lock_elapsed_ms,
+        confirmed_ms: s.confirmed_lock_elapsed_ms,
+        final_ms: s.final_lock_elapsed_ms,
     }
 }
 
@@ -144,10 +142,9 @@ fn milestones_shown(s: Snapshot) -> Milestones
 fn is_valid_snapshot(s: Snapshot) -> bool
     ensures { result ≡ valid_snapshot s }
 {
-    let estimate = s.estimate;
-    let milestones = milestones_shown(s);
-    let shown = s.diagnostics.candidate_count;
-    (shown <= CANDIDATES_MOST) & (is_valid_estimate(estimate) & are_valid_milestones(milestones))
+    s.diagnostics.candidate_count <= CANDIDATES_MOST
+        && is_valid_estimate(s.estimate)
+        && are_valid_milestones(milestones_shown(s))
 }
 
 // Where there is no last snapshot, nothing is asked of one.
@@ -155,9 +152,7 @@ fn is_valid_snapshot(s: Snapshot) -> bool
 fn is_valid_last(l: Last) -> bool
     ensures { result ≡ valid_last l }
 {
-    let endpoint = l.endpoint_ms;
-    let snapshot = l.snapshot;
-    is_valid_endpoint(endpoint) & (!l.has_snapshot | is_valid_snapshot(snapshot))
+    is_valid_endpoint(l.endpoint_ms) && (!l.has_snapshot || is_valid_snapshot(l.snapshot))
 }
 
 // 7: everything that a state holds.
@@ -165,12 +160,9 @@ fn is_valid_last(l: Last) -> bool
 pub fn is_valid_engine(e: Engine) -> bool
     ensures { result ≡ valid_engine e }
 {
-    let configuration = e.configuration;
-    let settings = e.settings;
-    let lock = e.lock;
-    let milestones = e.milestones;
-    let last = e.last;
-    is_valid_configuration(configuration)
-        & (is_valid_settings(settings)
-            & (is_valid_lock(lock) & (are_valid_milestones(milestones) & is_valid_last(last))))
+    is_valid_configuration(e.configuration)
+        && is_valid_settings(e.settings)
+        && is_valid_lock(e.lock)
+        && are_valid_milestones(e.milestones)
+        && is_valid_last(e.last)
 }

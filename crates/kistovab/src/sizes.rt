@@ -70,7 +70,7 @@ pub fn kistovab_coarse_energy_length(frames: usize, bands: usize) -> usize
 fn are_window_counts(frames: usize, bands: usize) -> bool
     ensures { result ≡ leb frames window_most && leb bands bands_most }
 {
-    (frames <= WINDOW_MOST) & (bands <= BANDS_MOST)
+    frames <= WINDOW_MOST && bands <= BANDS_MOST
 }
 
 #[tactic(auto, unfolding(crate::specs::Sizes::work32_length), using(engine_refusals::proofs::Products::few))]
@@ -88,7 +88,7 @@ pub fn kistovab_work32_length(frames: usize, bands: usize) -> usize
 pub fn kistovab_work64_length(frames: usize, bands: usize, reference_frames: usize) -> usize
     ensures { result ≡ work64_length frames bands reference_frames }
 {
-    if are_window_counts(frames, bands) & (reference_frames <= FRAMES_MOST) {
+    if are_window_counts(frames, bands) && reference_frames <= FRAMES_MOST {
         3 * (bands * (frames + 1)) + reference_frames
     } else {
         0

@@ -27,10 +27,7 @@ pub fn check_load(seed: u64, hop: f64, lent: &Window<'_>) -> Result<(), LoadRefu
     if !are_counts(n, lent.bands) {
         return Err(LoadRefusal::TooLarge);
     }
-    if lent.energies.len() != n {
-        return Err(LoadRefusal::Miscounted);
-    }
-    if lent.values.len() != lent.bands * n {
+    if lent.energies.len() != n || lent.values.len() != lent.bands * n {
         return Err(LoadRefusal::Miscounted);
     }
     Ok(())
