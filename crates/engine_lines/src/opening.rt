@@ -39,24 +39,27 @@ pub struct Opening {
     pub fraction: f64,
     pub fault: Option<Fault>,
     pub at: usize,
+    ghost repeats: { 0 < period },
 }
 
-pub fn opening_of(line: &[u8]) -> Opening
-    requires { length line.now ≡ line_bytes }
-    ensures { 0 < result.period }
-{
-    Opening {
-        seed: word_at(line, 1),
-        hop: float_at(line, 2),
-        period: some(count_at(line, 3)),
-        bands: count_at(line, 4),
-        frames: count_at(line, 5),
-        start: float_at(line, 6),
-        readiness: float_at(line, 7),
-        tracking: float_at(line, 8),
-        fraction: float_at(line, 9),
-        fault: Fault::numbered(word_at(line, 10)),
-        at: count_at(line, 11),
+impl Opening {
+    // What a line says.
+    pub fn of(line: &[u8]) -> Opening
+        requires { length line.now ≡ line_bytes }
+    {
+        Opening {
+            seed: word_at(line, 1),
+            hop: float_at(line, 2),
+            period: some(count_at(line, 3)),
+            bands: count_at(line, 4),
+            frames: count_at(line, 5),
+            start: float_at(line, 6),
+            readiness: float_at(line, 7),
+            tracking: float_at(line, 8),
+            fraction: float_at(line, 9),
+            fault: Fault::numbered(word_at(line, 10)),
+            at: count_at(line, 11),
+        }
     }
 }
 
@@ -74,9 +77,7 @@ pub fn answers_to(
     coarse: &mut [f32],
     fine_energy: &mut [f64],
     coarse_energy: &mut [f64],
-) -> Answers
-    requires { 0 < o.period }
-{
+) -> Answers {
     let answer = open(o, state, fine, coarse, fine_energy, coarse_energy);
     let narrow = with_all(with_all(0, fine), coarse);
     Answers {
@@ -94,9 +95,7 @@ fn open(
     coarse: &mut [f32],
     fine_energy: &mut [f64],
     coarse_energy: &mut [f64],
-) -> u32
-    requires { 0 < o.period }
-{
+) -> u32 {
     let mut times = [0.0f64; FRAMES];
     let mut values = [0.0f32; VALUES];
     make_reference(o, &mut times, &mut values);
@@ -119,9 +118,7 @@ fn open(
     )
 }
 
-fn make_reference(o: Opening, times: &mut [f64], values: &mut [f32])
-    requires { 0 < o.period }
-{
+fn make_reference(o: Opening, times: &mut [f64], values: &mut [f32]) {
     fill_times(times, o.start, o.hop);
     faults::spoil_times(times, o.fault, o.at, o.hop);
     sound::fill_reference(values, o.seed, o.period, some(o.frames));

@@ -45,24 +45,27 @@ pub struct Submission {
     pub at: usize,
 }
 
-pub fn submission_of(line: &[u8]) -> Submission
-    requires { length line.now ≡ line_bytes }
-{
-    let heard = Heard {
-        from: count_at(line, 3),
-        since: count_at(line, 4),
-        until: count_at(line, 5),
-        noise: word_at(line, 6),
-    };
-    Submission {
-        begin: float_at(line, 1),
-        frames: count_at(line, 2),
-        heard,
-        energy: float_at(line, 7),
-        loud: count_at(line, 8),
-        clock: float_at(line, 9),
-        fault: Fault::numbered(word_at(line, 10)),
-        at: count_at(line, 11),
+impl Submission {
+    // What a line says.
+    pub fn of(line: &[u8]) -> Submission
+        requires { length line.now ≡ line_bytes }
+    {
+        let heard = Heard {
+            from: count_at(line, 3),
+            since: count_at(line, 4),
+            until: count_at(line, 5),
+            noise: word_at(line, 6),
+        };
+        Submission {
+            begin: float_at(line, 1),
+            frames: count_at(line, 2),
+            heard,
+            energy: float_at(line, 7),
+            loud: count_at(line, 8),
+            clock: float_at(line, 9),
+            fault: Fault::numbered(word_at(line, 10)),
+            at: count_at(line, 11),
+        }
     }
 }
 
@@ -75,9 +78,7 @@ pub fn answers_to(
     coarse: &[f32],
     fine_energy: &[f64],
     coarse_energy: &[f64],
-) -> Answers
-    requires { 0 < o.period }
-{
+) -> Answers {
     let mut times = [0.0f64; FRAMES];
     let mut energies = [0.0f64; FRAMES];
     let mut values = [0.0f32; VALUES];
@@ -128,9 +129,7 @@ fn make_window(
     times: &mut [f64],
     energies: &mut [f64],
     values: &mut [f32],
-)
-    requires { 0 < o.period }
-{
+) {
     let heard = s.heard;
     fill_times(times, s.begin, o.hop);
     faults::spoil_times(times, s.fault, s.at, o.hop);

@@ -5,8 +5,8 @@ ghost use Rattle.engine_lines.specs.Lines.{agreement_with, in_all, line_bytes};
 
 use engine_lines::answers::{Agreement, Answers};
 use engine_lines::line::LINE;
-use engine_lines::opening::{Opening, opening_of};
-use engine_lines::submission::submission_of;
+use engine_lines::opening::Opening;
+use engine_lines::submission::Submission;
 use engine_lines::{opening, submission};
 use engine_words::states::STATE_WORDS;
 use hexadecimal::word_at;
@@ -59,7 +59,7 @@ impl Sessions {
         requires { length line.now ≡ line_bytes }
     {
         if opens(line) {
-            let o = opening_of(line);
+            let o = Opening::of(line);
             self.opening = Some(o);
             return opening::answers_to(
                 o,
@@ -70,9 +70,9 @@ impl Sessions {
                 &mut self.coarse_energy,
             );
         }
-        let o = self.opening.unwrap_or(opening_of(line));
+        let o = self.opening.unwrap_or(Opening::of(line));
         self.opening = Some(o);
-        let s = submission_of(line);
+        let s = Submission::of(line);
         submission::answers_to(
             o,
             s,
