@@ -1,95 +1,103 @@
-// What a line says is wrong with what is handed in, by number:
-//   1 to 4    a window comes with an index buffer one short: values, averages, the energies of both
-//   5, 6      a working buffer is lent one short
-//   7, 8      one energy, one value too few
-//   9, 10     65 bands, no bands are said
-//   11        a value is -1
-//   12        a time is late by 0.3 hops
-//   13        the window has a band more than the reference
-ghost use Rattle.std.specs.Prelude.{◌≤◌};
-
+// What a line says is wrong with what is handed in.
 use matcher_spec::limits::BANDS_MOST;
 
+#[derive(Clone, Copy, PartialEq, Eq)]
+pub enum Fault {
+    // An index buffer comes one short with a window.
+    ShortFine,
+    ShortCoarse,
+    ShortFineEnergy,
+    ShortCoarseEnergy,
+
+    // A working buffer is lent one short.
+    ShortWork32,
+    ShortWork64,
+
+    // One too few.
+    FewEnergies,
+    FewValues,
+
+    // 65 are said, or none.
+    ManyBands,
+    NoBands,
+
+    // A value is -1.
+    NegativeValue,
+
+    // A time is late by 0.3 hops.
+    LateTime,
+
+    // The window has a band more than the reference.
+    WideWindow,
+}
+
+impl Fault {
+    // By its number on a line; any other says that nothing is wrong.
+    pub fn numbered(number: u64) -> Option<Fault> {
+        match number {
+            1 => Some(Fault::ShortFine),
+            2 => Some(Fault::ShortCoarse),
+            3 => Some(Fault::ShortFineEnergy),
+            4 => Some(Fault::ShortCoarseEnergy),
+            5 => Some(Fault::ShortWork32),
+            6 => Some(Fault::ShortWork64),
+            7 => Some(Fault::FewEnergies),
+            8 => Some(Fault::FewValues),
+            9 => Some(Fault::ManyBands),
+            10 => Some(Fault::NoBands),
+            11 => Some(Fault::NegativeValue),
+            12 => Some(Fault::LateTime),
+            13 => Some(Fault::WideWindow),
+            _ => None,
+        }
+    }
+}
+
 // How much is lent of a buffer of `length` that has to hold `needed`.
-pub fn lent(fault: u64, buffer: u64, needed: usize, length: usize) -> usize {
-    if fault == buffer {
-        return one_fewer(needed);
+pub fn lent(fault: Option<Fault>, short: Fault, needed: usize, length: usize) -> usize {
+    if fault == Some(short) {
+        needed.saturating_sub(1)
+    } else {
+        length
     }
-    length
-}
-
-fn one_fewer(n: usize) -> usize {
-    if n == 0 {
-        return 0;
-    }
-    n - 1
-}
-
-// n, but no more than `most`.
-pub fn least(n: usize, most: usize) -> usize
-    ensures { result ≤ most }
-{
-    if n < most {
-        return n;
-    }
-    most
-}
-
-// The bands that there are.
-pub fn made_bands(fault: u64, bands: usize) -> usize {
-    if fault == 13 {
-        return bands % BANDS_MOST + 1;
-    }
-    bands
-}
-
-// The bands that are said.
-pub fn said_bands(fault: u64, bands: usize) -> usize {
-    if fault == 9 {
-        return BANDS_MOST + 1;
-    }
-    if fault == 10 {
-        return 0;
-    }
-    bands
-}
-
-pub fn spoil_values(values: &mut [f32], fault: u64, at: usize) {
-    if fault == 11 {
-        if at < values.len() {
-            values[at] = -1.0;
-        }
-    }
-}
-
-pub fn spoil_times(times: &mut [f64], fault: u64, at: usize, hop: f64) {
-    if fault == 12 {
-        if at < times.len() {
-            times[at] = times[at] + hop * 0.3;
-        }
-    }
-}
-
-// The first n of a list, or all where it has fewer.
-pub fn part(list: &[f64], n: usize) -> &[f64] {
-    if n < list.len() {
-        return &list[..n];
-    }
-    list
-}
-
-pub fn narrow_part(list: &[f32], n: usize) -> &[f32] {
-    if n < list.len() {
-        return &list[..n];
-    }
-    list
 }
 
 // How much of an index buffer is lent that has to hold `needed`.
-pub fn wide_lent(list: &[f64], fault: u64, buffer: u64, needed: usize) -> &[f64] {
-    part(list, lent(fault, buffer, needed, list.len()))
+pub fn lent_of<T>(list: &[T], fault: Option<Fault>, short: Fault, needed: usize) -> &[T] {
+    part(list, lent(fault, short, needed, list.len()))
 }
 
-pub fn narrow_lent(list: &[f32], fault: u64, buffer: u64, needed: usize) -> &[f32] {
-    narrow_part(list, lent(fault, buffer, needed, list.len()))
+// The first n of a list, or all where it has fewer.
+pub fn part<T>(list: &[T], n: usize) -> &[T] {
+    let end = n.min(list.len());
+    &list[..end]
+}
+
+// The bands that there are.
+pub fn made_bands(fault: Option<Fault>, bands: usize) -> usize {
+    match fault {
+        Some(Fault::WideWindow) => bands % BANDS_MOST + 1,
+        _ => bands,
+    }
+}
+
+// The bands that are said.
+pub fn said_bands(fault: Option<Fault>, bands: usize) -> usize {
+    match fault {
+        Some(Fault::ManyBands) => BANDS_MOST + 1,
+        Some(Fault::NoBands) => 0,
+        _ => bands,
+    }
+}
+
+pub fn spoil_values(values: &mut [f32], fault: Option<Fault>, at: usize) {
+    if fault == Some(Fault::NegativeValue) && at < values.len() {
+        values[at] = -1.0;
+    }
+}
+
+pub fn spoil_times(times: &mut [f64], fault: Option<Fault>, at: usize, hop: f64) {
+    if fault == Some(Fault::LateTime) && at < times.len() {
+        times[at] += hop * 0.3;
+    }
 }

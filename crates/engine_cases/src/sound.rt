@@ -2,6 +2,8 @@
 // compare/ makes the same ones.
 ghost use Rattle.std.specs.Prelude.{◌<◌};
 
+use replays::sound::value_at;
+
 // What is heard of a reference: frame 0 of the window is the reference's frame `from`. Before the
 // window's frame `since` and from `until` on something else is heard, and beside the reference
 // too: noise % 64 parts of 64. Which sound it is noise / 64 says.
@@ -11,14 +13,6 @@ pub struct Heard {
     pub since: usize,
     pub until: usize,
     pub noise: u64,
-}
-
-// A value from 0 to 64, the same for the same two numbers: two steps of a generator by products.
-fn value_at(seed: u64, n: u64) -> f32 {
-    let first = (n % 1048576 + seed % 131072 * 7919) % 2147483648 * 1103515245 % 2147483648;
-    let second = (first / 256 + first * 13) % 2147483648 * 69069 % 2147483648;
-    let step = (second / 131072 % 4096) as f32;
-    step * step / 262144.0
 }
 
 // What a band has at a frame of the reference, which repeats every `period` frames: a level that
@@ -42,10 +36,7 @@ fn heard_at(seed: u64, period: usize, heard: Heard, band: usize, frame: usize) -
         band,
         frame,
     );
-    if frame < heard.since {
-        return other;
-    }
-    if frame >= heard.until {
+    if frame < heard.since || frame >= heard.until {
         return other;
     }
     let part = (heard.noise % 64) as f32 / 64.0;
@@ -55,49 +46,35 @@ fn heard_at(seed: u64, period: usize, heard: Heard, band: usize, frame: usize) -
 
 // The reference, band after band: element i is frame i % n of band i / n.
 pub fn fill_reference(values: &mut [f32], seed: u64, period: usize, n: usize)
-    requires fact_1 { 0 < period }
-    requires fact_2 { 0 < n }
+    requires repeats { 0 < period }
+    requires some { 0 < n }
 {
-    let mut i = 0usize;
-    while i < values.len() {
+    for i in 0..values.len() {
         values[i] = sound_at(seed, period, i / n, i % n);
-        i += 1;
     }
 }
 
 // The window, band after band.
 pub fn fill_window(values: &mut [f32], seed: u64, period: usize, heard: Heard, n: usize)
-    requires fact_1 { 0 < period }
-    requires fact_2 { 0 < n }
+    requires repeats { 0 < period }
+    requires some { 0 < n }
 {
-    let mut i = 0usize;
-    while i < values.len() {
+    for i in 0..values.len() {
         values[i] = heard_at(seed, period, heard, i / n, i % n);
-        i += 1;
-    }
-}
-
-// Times from `start` on, a hop apart.
-pub fn fill_times(times: &mut [f64], start: f64, hop: f64) {
-    let mut i = 0usize;
-    while i < times.len() {
-        times[i] = start + numbers::float::real(i) * hop;
-        i += 1;
     }
 }
 
 // The energy of a frame: about `energy` in the first `loud` frames, and 100 less in the others.
 fn energy_at(energy: f64, loud: usize, frame: usize) -> f64 {
     if frame < loud {
-        return energy - numbers::float::real(frame % 5) * 0.25;
+        energy - numbers::float::real(frame % 5) * 0.25
+    } else {
+        energy - 100.0
     }
-    energy - 100.0
 }
 
 pub fn fill_energies(energies: &mut [f64], energy: f64, loud: usize) {
-    let mut i = 0usize;
-    while i < energies.len() {
+    for i in 0..energies.len() {
         energies[i] = energy_at(energy, loud, i);
-        i += 1;
     }
 }

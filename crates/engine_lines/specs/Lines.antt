@@ -21,4 +21,4 @@ agreement_with line found =
     }
 
 unfoldable pub in_all : Agreement → Bool
-in_all a = a.answer && (a.state && a.shown)
+in_all a = a.answer && a.state && a.shown

@@ -21,20 +21,25 @@ pub struct Agreement {
     pub shown: bool,
 }
 
-pub fn agreement_with(line: &[u8], found: Answers) -> Agreement
-    requires { length line.now ≡ line_bytes }
-    ensures { result ≡ agreement_with line.now found }
-{
-    Agreement {
-        answer: found.answer == word_at(line, 12),
-        state: found.state == word_at(line, 13),
-        shown: found.shown == word_at(line, 14),
+impl Agreement {
+    // Of a line, with what is answered to it.
+    #[tactic(auto, unfolding(crate::specs::Lines::agreement_with))]
+    pub fn with(line: &[u8], found: Answers) -> Agreement
+        requires { length line.now ≡ line_bytes }
+        ensures { result ≡ agreement_with line.now found }
+    {
+        Agreement {
+            answer: found.answer == word_at(line, 12),
+            state: found.state == word_at(line, 13),
+            shown: found.shown == word_at(line, 14),
+        }
     }
-}
 
-// In everything.
-pub fn agrees(a: Agreement) -> bool
-    ensures { result ≡ in_all a }
-{
-    a.answer & (a.state & a.shown)
+    // In everything.
+    #[tactic(auto, unfolding(crate::specs::Lines::in_all))]
+    pub fn in_all(self) -> bool
+        ensures { result ≡ in_all self }
+    {
+        self.answer && self.state && self.shown
+    }
 }

@@ -2,8 +2,8 @@
 ghost use Rattle.std.specs.Prelude.{◌<◌, length, ◌≡◌};
 ghost use Rattle.engine_lines.specs.Lines.{line_bytes, line_words};
 
-use engine_layout::values::word_float;
 use hexadecimal::{SPACED, word_at};
+use std::num::f64_from_bits_with_nan;
 
 // The bytes of a line: 15 words.
 pub const LINE: usize = 15 * SPACED;
@@ -17,5 +17,5 @@ pub fn count_at(line: &[u8], k: usize) -> usize
 pub fn float_at(line: &[u8], k: usize) -> f64
     requires { (length line.now ≡ line_bytes) × (k < line_words) }
 {
-    word_float(word_at(line, k))
+    f64_from_bits_with_nan(word_at(line, k))
 }

@@ -4,10 +4,13 @@ ghost use Rattle.engine_lines.specs.Lines.{line_bytes};
 
 use crate::answers::Answers;
 use crate::line::{count_at, float_at};
-use engine_cases::{digest, faults, sound};
+use engine_cases::faults::Fault;
+use engine_cases::{faults, sound};
 use hexadecimal::word_at;
 use kistovab::calls::kistovab_open;
 use kistovab::sizes::kistovab_fine_length;
+use replays::digest::with_all;
+use replays::sound::fill_times;
 
 // The thresholds of energy are as a unit starts with them.
 const ACTIVE: f64 = -70.0;
@@ -34,26 +37,29 @@ pub struct Opening {
     pub readiness: f64,
     pub tracking: f64,
     pub fraction: f64,
-    pub fault: u64,
+    pub fault: Option<Fault>,
     pub at: usize,
+    ghost repeats: { 0 < period },
 }
 
-pub fn opening_of(line: &[u8]) -> Opening
-    requires { length line.now ≡ line_bytes }
-    ensures { 0 < result.period }
-{
-    Opening {
-        seed: word_at(line, 1),
-        hop: float_at(line, 2),
-        period: some(count_at(line, 3)),
-        bands: count_at(line, 4),
-        frames: count_at(line, 5),
-        start: float_at(line, 6),
-        readiness: float_at(line, 7),
-        tracking: float_at(line, 8),
-        fraction: float_at(line, 9),
-        fault: word_at(line, 10),
-        at: count_at(line, 11),
+impl Opening {
+    // What a line says.
+    pub fn of(line: &[u8]) -> Opening
+        requires { length line.now ≡ line_bytes }
+    {
+        Opening {
+            seed: word_at(line, 1),
+            hop: float_at(line, 2),
+            period: some(count_at(line, 3)),
+            bands: count_at(line, 4),
+            frames: count_at(line, 5),
+            start: float_at(line, 6),
+            readiness: float_at(line, 7),
+            tracking: float_at(line, 8),
+            fraction: float_at(line, 9),
+            fault: Fault::numbered(word_at(line, 10)),
+            at: count_at(line, 11),
+        }
     }
 }
 
@@ -61,10 +67,7 @@ pub fn opening_of(line: &[u8]) -> Opening
 pub fn some(n: usize) -> usize
     ensures { 0 < result }
 {
-    if n == 0 {
-        return 1;
-    }
-    n
+    n.max(1)
 }
 
 pub fn answers_to(
@@ -74,15 +77,13 @@ pub fn answers_to(
     coarse: &mut [f32],
     fine_energy: &mut [f64],
     coarse_energy: &mut [f64],
-) -> Answers
-    requires { 0 < o.period }
-{
+) -> Answers {
     let answer = open(o, state, fine, coarse, fine_energy, coarse_energy);
-    let narrow = digest::with_narrow(digest::with_narrow(0, fine), coarse);
+    let narrow = with_all(with_all(0, fine), coarse);
     Answers {
         answer: answer as u64,
-        state: digest::with_words(0, state),
-        shown: digest::with_floats(digest::with_floats(narrow, fine_energy), coarse_energy),
+        state: with_all(0, state),
+        shown: with_all(with_all(narrow, fine_energy), coarse_energy),
     }
 }
 
@@ -94,9 +95,7 @@ fn open(
     coarse: &mut [f32],
     fine_energy: &mut [f64],
     coarse_energy: &mut [f64],
-) -> u32
-    requires { 0 < o.period }
-{
+) -> u32 {
     let mut times = [0.0f64; FRAMES];
     let mut values = [0.0f32; VALUES];
     make_reference(o, &mut times, &mut values);
@@ -110,7 +109,7 @@ fn open(
         o.hop,
         faults::said_bands(o.fault, o.bands),
         faults::part(&times, o.frames),
-        faults::narrow_part(&values, faults::lent(o.fault, 8, size, size)),
+        faults::part(&values, faults::lent(o.fault, Fault::FewValues, size, size)),
         fine,
         coarse,
         fine_energy,
@@ -119,10 +118,8 @@ fn open(
     )
 }
 
-fn make_reference(o: Opening, times: &mut [f64], values: &mut [f32])
-    requires { 0 < o.period }
-{
-    sound::fill_times(times, o.start, o.hop);
+fn make_reference(o: Opening, times: &mut [f64], values: &mut [f32]) {
+    fill_times(times, o.start, o.hop);
     faults::spoil_times(times, o.fault, o.at, o.hop);
     sound::fill_reference(values, o.seed, o.period, some(o.frames));
     faults::spoil_values(values, o.fault, o.at);

@@ -6,8 +6,9 @@ use crate::answers::Answers;
 use crate::line::{count_at, float_at};
 use crate::opening;
 use crate::opening::{Opening, some};
+use engine_cases::faults::Fault;
 use engine_cases::sound::Heard;
-use engine_cases::{digest, faults, sound};
+use engine_cases::{faults, sound};
 use engine_words::snapshots::SNAPSHOT_WORDS;
 use hexadecimal::word_at;
 use kistovab::calls::kistovab_submit;
@@ -15,6 +16,8 @@ use kistovab::sizes::{
     kistovab_coarse_energy_length, kistovab_coarse_length, kistovab_fine_energy_length,
     kistovab_fine_length, kistovab_work32_length, kistovab_work64_length,
 };
+use replays::digest::with_all;
+use replays::sound::fill_times;
 
 // The most frames and bands of a window: one band more than a reference's.
 const FRAMES: usize = 120;
@@ -38,28 +41,31 @@ pub struct Submission {
     pub energy: f64,
     pub loud: usize,
     pub clock: f64,
-    pub fault: u64,
+    pub fault: Option<Fault>,
     pub at: usize,
 }
 
-pub fn submission_of(line: &[u8]) -> Submission
-    requires { length line.now ≡ line_bytes }
-{
-    let heard = Heard {
-        from: count_at(line, 3),
-        since: count_at(line, 4),
-        until: count_at(line, 5),
-        noise: word_at(line, 6),
-    };
-    Submission {
-        begin: float_at(line, 1),
-        frames: count_at(line, 2),
-        heard,
-        energy: float_at(line, 7),
-        loud: count_at(line, 8),
-        clock: float_at(line, 9),
-        fault: word_at(line, 10),
-        at: count_at(line, 11),
+impl Submission {
+    // What a line says.
+    pub fn of(line: &[u8]) -> Submission
+        requires { length line.now ≡ line_bytes }
+    {
+        let heard = Heard {
+            from: count_at(line, 3),
+            since: count_at(line, 4),
+            until: count_at(line, 5),
+            noise: word_at(line, 6),
+        };
+        Submission {
+            begin: float_at(line, 1),
+            frames: count_at(line, 2),
+            heard,
+            energy: float_at(line, 7),
+            loud: count_at(line, 8),
+            clock: float_at(line, 9),
+            fault: Fault::numbered(word_at(line, 10)),
+            at: count_at(line, 11),
+        }
     }
 }
 
@@ -72,9 +78,7 @@ pub fn answers_to(
     coarse: &[f32],
     fine_energy: &[f64],
     coarse_energy: &[f64],
-) -> Answers
-    requires { 0 < o.period }
-{
+) -> Answers {
     let mut times = [0.0f64; FRAMES];
     let mut energies = [0.0f64; FRAMES];
     let mut values = [0.0f32; VALUES];
@@ -86,26 +90,34 @@ pub fn answers_to(
         s,
         bands,
         faults::part(&times, s.frames),
-        faults::part(&energies, faults::lent(s.fault, 7, s.frames, s.frames)),
-        faults::narrow_part(&values, faults::lent(s.fault, 8, size, size)),
+        faults::part(
+            &energies,
+            faults::lent(s.fault, Fault::FewEnergies, s.frames, s.frames),
+        ),
+        faults::part(&values, faults::lent(s.fault, Fault::FewValues, size, size)),
         state,
-        faults::narrow_lent(fine, s.fault, 1, kistovab_fine_length(o.frames, o.bands)),
-        faults::narrow_lent(
+        faults::lent_of(
+            fine,
+            s.fault,
+            Fault::ShortFine,
+            kistovab_fine_length(o.frames, o.bands),
+        ),
+        faults::lent_of(
             coarse,
             s.fault,
-            2,
+            Fault::ShortCoarse,
             kistovab_coarse_length(o.frames, o.bands),
         ),
-        faults::wide_lent(
+        faults::lent_of(
             fine_energy,
             s.fault,
-            3,
+            Fault::ShortFineEnergy,
             kistovab_fine_energy_length(o.frames, o.bands),
         ),
-        faults::wide_lent(
+        faults::lent_of(
             coarse_energy,
             s.fault,
-            4,
+            Fault::ShortCoarseEnergy,
             kistovab_coarse_energy_length(o.frames, o.bands),
         ),
     )
@@ -117,11 +129,9 @@ fn make_window(
     times: &mut [f64],
     energies: &mut [f64],
     values: &mut [f32],
-)
-    requires { 0 < o.period }
-{
+) {
     let heard = s.heard;
-    sound::fill_times(times, s.begin, o.hop);
+    fill_times(times, s.begin, o.hop);
     faults::spoil_times(times, s.fault, s.at, o.hop);
     sound::fill_energies(energies, s.energy, s.loud);
     sound::fill_window(values, o.seed, o.period, heard, some(s.frames));
@@ -147,8 +157,8 @@ fn submit_within(
     let mut snapshot = [0u64; SNAPSHOT_WORDS];
     let narrow = kistovab_work32_length(s.frames, bands);
     let wide = kistovab_work64_length(s.frames, bands, o.frames);
-    let n = faults::least(faults::lent(s.fault, 5, narrow, narrow), WORK32);
-    let w = faults::least(faults::lent(s.fault, 6, wide, wide), WORK64);
+    let n = faults::lent(s.fault, Fault::ShortWork32, narrow, narrow).min(WORK32);
+    let w = faults::lent(s.fault, Fault::ShortWork64, wide, wide).min(WORK64);
     let answer = kistovab_submit(
         state,
         fine,
@@ -166,7 +176,7 @@ fn submit_within(
     );
     Answers {
         answer: answer as u64,
-        state: digest::with_words(0, state),
-        shown: digest::with_words(0, &snapshot),
+        state: with_all(0, state),
+        shown: with_all(0, &snapshot),
     }
 }

@@ -1,9 +1,0 @@
--- `engine_cases::sound::fill_window` is safe. The loop's invariant: the slice keeps its length. Assumes nothing.
-use Rattle.std.proofs.Common.{◌≡◌, ◌-◌, ◌≤◌, length}
-use Rattle.engine_cases.proofs.sound.fill_window.Given as goal
-
-abbrev pub invariant-loop-i : goal.invariant-loop-i
-invariant-loop-i l = (l.i ≤ length l.initial.values) × (length l.values ≡ length l.initial.values)
-
-abbrev pub decreases-loop-i : goal.decreases-loop-i
-decreases-loop-i l = length l.initial.values - l.i
