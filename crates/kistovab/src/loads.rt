@@ -1,10 +1,10 @@
 // A load for test benches.
 ghost use Rattle.std.specs.Prelude.{◌≡◌};
 ghost use Rattle.engine_spec.specs.Lent.{window};
-ghost use Rattle.workload_spec.specs.Fill.{filling_number, filling_of, slices_after};
+ghost use Rattle.workload_spec.specs.Fill.{filling_number, load_refusal, slices_after};
 
 use workload::load::fill;
-use workload::refusals::filling_number;
+use workload::refusals::load_number;
 
 // Fills a reference or a window from a seed, wholly, or refuses and writes nothing.
 pub fn kistovab_fill_load(
@@ -15,9 +15,11 @@ pub fn kistovab_fill_load(
     energies: &mut [f64],
     values: &mut [f32],
 ) -> u32
-    ensures value { result ≡ filling_number (filling_of seed hop_ms (window bands times.old energies.old values.old)) }
+    ensures value { result ≡ filling_number (load_refusal seed hop_ms (window bands times.old energies.old values.old)) }
     ensures slices { window bands times.new energies.new values.new ≡ slices_after seed hop_ms (window bands times.old energies.old values.old) }
 {
-    let filling = fill(seed, hop_ms, bands, times, energies, values);
-    filling_number(filling)
+    match fill(seed, hop_ms, bands, times, energies, values) {
+        Ok(()) => 0,
+        Err(refusal) => load_number(refusal),
+    }
 }
