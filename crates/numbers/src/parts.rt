@@ -30,16 +30,9 @@ pub fn split(x: f64) -> Parts
     let minus = bits >= 0x8000_0000_0000_0000;
     let field = bits / LEADING % 2048;
     let low = bits % LEADING;
-    if field == 0 {
-        return Parts {
-            minus,
-            sig: low,
-            exp: 0,
-        };
-    }
     Parts {
         minus,
-        sig: low + LEADING,
-        exp: field - 1,
+        sig: if field == 0 { low } else { low + LEADING },
+        exp: field.saturating_sub(1),
     }
 }
