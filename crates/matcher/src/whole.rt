@@ -1,11 +1,11 @@
 // Whole search: the candidates of the whole reference.
-ghost use Rattle.std.specs.Prelude.{suc, ◌+◌, ◌-◌, ◌*◌, ◌<◌, ◌/◌, ◌≤◌, length, ◌≡◌};
+ghost use Rattle.std.specs.Prelude.{◌+◌, ◌-◌, ◌*◌, ◌<◌, ◌/◌, ◌≤◌, length, ◌≡◌};
 ghost use Rattle.std.specs.List.{All};
 ghost use Rattle.matcher_spec.specs.Candidates.{sorted};
 ghost use Rattle.matcher_spec.specs.Energy.{Holds, reduced, whole_energies};
 ghost use Rattle.matcher_spec.specs.Index.{lent_bands, lent_matcher};
 ghost use Rattle.matcher_spec.specs.Lent.{bands_in};
-ghost use Rattle.matcher_spec.specs.Limits.{bands_most, candidates_most, frames_most};
+ghost use Rattle.matcher_spec.specs.Limits.{bands_most, frames_most};
 ghost use Rattle.matcher_spec.specs.Peaks.{peaks};
 ghost use Rattle.matcher_spec.specs.Scores.{correlations};
 ghost use Rattle.matcher_spec.specs.Search.{FilledQuery, InRange, QueryFits, WorkRoom, candidates_at, coarse_scores, separation, whole_found, whole_search};
@@ -178,15 +178,14 @@ fn peak_separation(hop: f64) -> usize
 
 // The candidates around the peaks, the best first. Scores are worked out in `scores`.
 #[tactic(auto, unfolding(matcher_spec::specs::Search::candidates_at, matcher_spec::specs::Candidates::sort_into))]
-fn candidates_around(compared: &Comparison<'_>, peaks: &[usize], scores: &mut [f64]) -> MatchResult
-    requires few { length peaks.now ≤ candidates_most }
-    requires in_bounds { All (λ peak. peak ≤ suc frames_most) peaks.now }
+fn candidates_around(compared: &Comparison<'_>, picked: &Picked, scores: &mut [f64]) -> MatchResult
+    requires in_bounds { All (λ peak. peak ≤ frames_most) picked.now.items }
     requires room { compared.now.reference.frames ≤ length scores.old }
-    ensures { result.items ≡ sorted (candidates_at compared.now.reference (bands_in compared.now.fine) (bands_in compared.now.query) compared.now.start peaks.now) }
+    ensures { result.items ≡ sorted (candidates_at compared.now.reference (bands_in compared.now.fine) (bands_in compared.now.query) compared.now.start picked.now.items) }
 {
     let last = compared.reference.frames - compared.query.count;
     let mut found = nothing_found();
-    for peak in peaks {
+    for peak in picked.iter() {
         let centre = *peak * 4;
         let low = centre.saturating_sub(4);
         let high = last.min(centre + 4);

@@ -1,4 +1,4 @@
--- Candidates: order, the 750 rule, the result and its margin (document 01, Matcher; matcher.rs, `match_query`, `MatchResult`). Definitions only.
+-- Candidates: order, the 750 rule and the margin (document 01, Matcher; matcher.rs, `match_query`, `MatchResult`). Definitions only.
 use Rattle.std.specs.Prelude.{Bool, cond, List, [], ◌∷◌, ◌++◌, Float}
 use Rattle.std.specs.Float.{binary64}
 use Rattle.std.specs.Float.Ieee.{lt, of_bits}
