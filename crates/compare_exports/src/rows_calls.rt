@@ -7,6 +7,7 @@ use numbers_rows::narrow_row::narrow_row;
 use numbers_rows::root_row::root_row;
 
 // Each answers whether the row to be filled is as long as that of numbers; if not, nothing is written.
+// Kept: three C names of four lines; one generic function would ask a closure's pre and post of each.
 #[unsafe(no_mangle)]
 pub extern "C" fn numbers_root_row(roots: &mut [f64], x: &[f64]) -> bool
     ensures value { result ≡ eqb (length roots.old) (length x.now) }

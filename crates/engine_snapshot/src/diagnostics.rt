@@ -69,10 +69,7 @@ fn magnitude(x: f64) -> f64
 fn track_count(track: Option<Hypothesis>) -> usize
     ensures { result ≡ count_of_track track }
 {
-    match track {
-        None => 0,
-        Some(_) => 1,
-    }
+    usize::from(track.is_some())
 }
 
 // The margin of a whole search, or 0.

@@ -3,7 +3,6 @@
 #![tactic(auto)]
 
 pub mod constants;
-pub mod counts;
 pub mod exponential;
 pub mod float;
 pub mod logarithm;
