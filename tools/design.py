@@ -1,0 +1,195 @@
+#!/usr/bin/env python3
+"""design.py [--list] [FOLDER]: places that docs/DESIGN-PASS.md counts, in the sources below FOLDER (default crates).
+
+One line for each point with how many there are; with --list each place too, as POINT FILE:LINE what. A place is
+one to look at, found by shape alone: docs/DESIGN-PASS.md says of each whether it was changed or why it stays.
+"""
+import argparse, collections, glob, itertools, os, re, sys
+
+WORD = re.compile(r"[A-Za-z_]\w*|\d[\w.]*|\S")
+KEYWORDS = {"if", "else", "while", "for", "in", "let", "mut", "return", "match", "fn", "pub", "as", "true", "false", "loop",
+            "len", "usize"}
+FUNCTION = re.compile(r'^(?P<indent>[ \t]*)(?:pub(?:\(crate\))? )?(?:extern "C" )?fn (?P<name>\w+)', re.M)
+
+
+class Function:
+    """A function of a source file: its name, parameters, clauses and body, and where it stands."""
+
+    def __init__(self, path, text, match):
+        self.path, self.name = path, match["name"]
+        self.line = text.count("\n", 0, match.start("name")) + 1
+        end = re.compile(r"^%s\}" % re.escape(match["indent"]), re.M).search(text, match.end())
+        one = re.compile(r"\{[^{}\n]*\}\n").search(text, match.end())
+        stop = end.end() if end else len(text)
+        self.text = text[match.start():stop]
+        opened = re.compile(r"^%s\{" % re.escape(match["indent"]), re.M).search(self.text)
+        first = self.text.index("\n") if "\n" in self.text else len(self.text)
+        cut = opened.start() if opened else (first if self.text[:first].rstrip().endswith("{") else 0)
+        self.head, self.body = self.text[:cut], self.text[cut:]
+        at = self.text.index("(")
+        depth = 0
+        for i in range(at, len(self.text)):
+            depth += {"(": 1, ")": -1}.get(self.text[i], 0)
+            if depth == 0:
+                break
+        inside = self.text[at + 1:i]
+        self.parameters = [tuple(p.strip() for p in q.split(":", 1)) for q in re.split(r",\s*(?![^<\[(]*[>\])])", inside)
+                           if ":" in q]
+        arrow = re.match(r"\s*->\s*([^\n{]+)", self.text[i + 1:])
+        self.result = arrow[1].strip() if arrow else ""
+
+    def clauses(self):
+        return re.findall(r"^\s*(requires|ensures)\s+(?:\w+ )?\{ (.*) \}$", self.head, re.M)
+
+    def shape(self):
+        """The body and the parameters' number, with names, numbers and types told apart by order alone."""
+        seen, out = {}, [str(len(self.parameters))]
+        for word in WORD.findall(re.sub(r"//[^\n]*", "", self.body)):
+            if word in KEYWORDS or not (word[0].isalpha() or word[0].isdigit() or word[0] == "_"):
+                out.append(word)
+            else:
+                out.append("#%d" % seen.setdefault(word, len(seen)))
+        return tuple(out)
+
+
+def read(folder):
+    files, functions = {}, []
+    for path in sorted(glob.glob(os.path.join(folder, "*", "src", "**", "*.rt"), recursive=True)):
+        text = open(path, encoding="utf-8").read()
+        files[path] = text
+        bare = re.sub(r"^\s*//[^\n]*$", "", text, flags=re.M)
+        functions += [Function(path, bare, m) for m in FUNCTION.finditer(bare)]
+    return files, functions
+
+
+def bodies(files, kind):
+    """Each struct or enum: path, line, name, the text between its braces."""
+    for path, text in files.items():
+        for m in re.finditer(r"^(?:pub )?%s (\w+)[^\n{;(]*\{\n(.*?)^\}" % kind, text, re.M | re.S):
+            yield path, text.count("\n", 0, m.start()) + 1, m[1], re.sub(r"//[^\n]*", "", m[2])
+
+
+def point_1(files, functions):
+    for path, line, name, inside in bodies(files, "enum"):
+        cases = re.findall(r"^    (\w+)", inside, re.M)
+        if set(cases) & {"None", "Absent", "Malformed", "Unknown", "Filled", "Refused"}:
+            yield path, line, "enum %s: %s" % (name, " ".join(cases))
+    for path, line, name, inside in bodies(files, "struct"):
+        for field, of in re.findall(r"(\w+): (\w+)", inside):
+            if field in ("refusal", "answer", "sure") and of != "u64" or field.startswith("has_") or field == "sure":
+                yield path, line, "struct %s: %s beside a value" % (name, field)
+    for f in functions:
+        numbers = re.findall(r"(?:==|=>) \(?(?:0x)?\d[\d_]*\b(?!\.)", f.body)
+        if len(numbers) >= 3 and "loop" not in f.body:
+            yield f.path, f.line, "%s: %d numbers for kinds" % (f.name, len(numbers))
+        elif re.search(r"== (?:16|\w+\.len\(\))[ {]", f.body) and re.search(r"return|beats|Malformed", f.body):
+            yield f.path, f.line, "%s: a number that stands for none" % f.name
+
+
+def point_2(files, functions):
+    by = collections.defaultdict(list)
+    for f in functions:
+        shape = f.shape()
+        if len(shape) >= 25:
+            by[shape].append(f)
+    for shape, same in by.items():
+        if len(same) > 1:
+            for f in same:
+                yield f.path, f.line, "%s, as %s" % (f.name, ", ".join(g.name for g in same if g is not f))
+
+
+def point_3(files, functions):
+    for path, text in files.items():
+        for m in re.finditer(r"^\s*(?:'\w+: )?(while [^\n]*) \{", text, re.M):
+            yield path, text.count("\n", 0, m.start(1)) + 1, m[1]
+
+
+def point_4(files, functions):
+    for f in functions:
+        arms = re.findall(r"=> ([^,\n{]+),", f.body)
+        literal = [a for a in arms if re.fullmatch(r"true|false|\d+|[A-Z_]+|\w+::\w+", a)]
+        if len(arms) >= 2 and len(literal) == len(arms):
+            yield f.path, f.line, "%s: a match of literals" % f.name
+        elif len(re.findall(r"== \d+ \{\s*return \w+::\w+;", f.body)) >= 2:
+            yield f.path, f.line, "%s: a case for each number" % f.name
+        elif re.fullmatch(r"\{\s*if \w+ < \w+ \{ (\w+ - \w+|\w+|0) \} else \{ (\w+ - \w+|\w+|0) \}\s*\}", f.body.strip()):
+            yield f.path, f.line, "%s: a method of usize" % f.name
+        elif re.search(r"return (1|true|_\w+);\s*\} else \{\s*return (0|false);", f.body) or re.fullmatch(
+                r"\{\s*(if \w+ == 0|if \w+) \{\s*return [\w.]+;\s*\}\s*[\w. -]+\s*\}", f.body.strip()):
+            yield f.path, f.line, "%s: a conversion" % f.name
+
+
+def point_5(files, functions):
+    with_triple = collections.defaultdict(set)
+    for i, f in enumerate(functions):
+        names = sorted({(n.replace("mut ", ""), re.sub(r"&mut |&", "&", t)) for n, t in f.parameters})
+        for triple in itertools.combinations(names, 3):
+            with_triple[triple].add(i)
+    found = collections.defaultdict(set)
+    for triple, where in with_triple.items():
+        if len(where) >= 3:
+            for i in where:
+                found[i] |= {n for n, _ in triple}
+    for i in sorted(found):
+        f = functions[i]
+        yield f.path, f.line, "%s: %s" % (f.name, ", ".join(n for n, _ in f.parameters if n in found[i]))
+    by = collections.defaultdict(set)
+    for i, f in enumerate(functions):
+        for kind, text in f.clauses():
+            if kind == "requires":
+                by[text].add(i)
+    for text, where in by.items():
+        if len(where) >= 3:
+            f = functions[min(where)]
+            yield f.path, f.line, "asked by %d: %s" % (len(where), text)
+
+
+def point_6(files, functions):
+    for path, line, name, inside in bodies(files, "struct"):
+        if re.search(r": \[\w+; \w+\]", inside) and re.search(r"\b(\w*count|len|size): usize", inside):
+            yield path, line, "struct %s: an array with a count" % name
+    for f in functions:
+        same = re.findall(r"length (\w+)\.(?:old|now) ≡ (?:length (\w+)\.(?:old|now)|block)\b", f.head)
+        if len(same) >= 2:
+            yield f.path, f.line, "%s: %d slices of one length" % (f.name, len(same) + 1)
+
+
+def point_7(files, functions):
+    for f in functions:
+        if any(n == "fault" for n, _ in f.parameters) and re.search(r"fault == \d", f.body):
+            yield f.path, f.line, "%s: by the number of a fault" % f.name
+    for path, text in files.items():
+        for m in re.finditer(r"\bfn\(", text):
+            yield path, text.count("\n", 0, m.start()) + 1, "a function pointer"
+
+
+def point_8(folder):
+    answers = lines = 0
+    for path in glob.glob(os.path.join(folder, "*", "proofs", "**", "Answers.antt"), recursive=True):
+        text = open(path, encoding="utf-8").read()
+        answers += len(re.findall(r"^pub ", text, re.M))
+        lines += text.count("\n")
+    every = sum(open(p, encoding="utf-8").read().count("\n")
+                for p in glob.glob(os.path.join(folder, "*", "proofs", "**", "*.antt"), recursive=True))
+    return answers, lines, every
+
+
+def main():
+    parser = argparse.ArgumentParser(description=__doc__, formatter_class=argparse.RawDescriptionHelpFormatter)
+    parser.add_argument("folder", nargs="?", default="crates")
+    parser.add_argument("--list", action="store_true")
+    given = parser.parse_args()
+    if not os.path.isdir(given.folder):
+        sys.exit("design.py: no folder %s" % given.folder)
+    files, functions = read(given.folder)
+    for number, point in enumerate((point_1, point_2, point_3, point_4, point_5, point_6, point_7), 1):
+        places = list(point(files, functions))
+        print("point %d: %d places" % (number, len(places)))
+        if given.list:
+            for path, line, what in places:
+                print("  %d %s:%d %s" % (number, path, line, what))
+    print("point 8: %d answers in %d lines; %d lines of proofs" % point_8(given.folder))
+
+
+if __name__ == "__main__":
+    main()
