@@ -32,7 +32,7 @@ pub fn local_search(
     requires holds { Holds reference.bands reference.frames index.now.fine index.now.fine_energy }
     requires values_len_1 { length window.now.values ≡ window.now.bands * length window.now.times }
     requires values_len_2 { WorkRoom reference window.now.bands (length window.now.times) work32.old work64.old }
-    ensures { result.items ≡ local_search reference (lent_bands reference.bands reference.frames index.now.fine index.now.fine_energy) window.now lower upper }
+    ensures value { result.items ≡ local_search reference (lent_bands reference.bands reference.frames index.now.fine index.now.fine_energy) window.now lower upper }
 {
     let filled = fill_query(reference, window, work32, work64);
     local_found(

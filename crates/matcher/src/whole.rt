@@ -37,7 +37,7 @@ pub fn whole_search(
     requires holds_2 { Holds reference.bands (reference.frames / 4) index.now.coarse index.now.coarse_energy }
     requires values_len_1 { length window.now.values ≡ window.now.bands * length window.now.times }
     requires values_len_2 { WorkRoom reference window.now.bands (length window.now.times) work32.old work64.old }
-    ensures { result.items ≡ whole_search (lent_matcher reference index.now) window.now }
+    ensures value { result.items ≡ whole_search (lent_matcher reference index.now) window.now }
 {
     let filled = fill_query(reference, window, work32, work64);
     whole_found(filled, index, reference, window, work32, work64)
@@ -60,7 +60,7 @@ pub fn whole_found(
     requires holds_2 { Holds reference.bands (reference.frames / 4) index.now.coarse index.now.coarse_energy }
     requires work_room { WorkRoom reference window.now.bands (length window.now.times) work32.old work64.old }
     requires filled_query { FilledQuery reference window.now filled work32.old work64.old }
-    ensures { result.items ≡ whole_search (lent_matcher reference index.now) window.now }
+    ensures value { result.items ≡ whole_search (lent_matcher reference index.now) window.now }
 {
     if !filled {
         return nothing_found();
