@@ -23,6 +23,7 @@ use engine_words::snapshots::{SNAPSHOT_WORDS, write_snapshot};
 use engine_words::states::{STATE_WORDS, read_state, write_state};
 use matcher_spec::lent::{Features, Index};
 
+#[tactic(auto, unfolding(crate::specs::Calls::open_code, crate::specs::Calls::index_after), using(crate::proofs::CallLaws::code_refused))]
 pub fn kistovab_open(
     minimum_readiness_duration_ms: f64,
     tracking_query_duration_ms: f64,
@@ -77,6 +78,7 @@ pub fn kistovab_open(
 }
 
 // A re-reading leaves the state as it is, a refusal both.
+#[tactic(auto, unfolding(crate::specs::Calls::submit_code), using(crate::proofs::CallLaws::code_refused, crate::proofs::CallLaws::answers_kind))]
 pub fn kistovab_submit(
     state: &mut [u64],
     fine: &[f32],
@@ -125,8 +127,9 @@ pub fn kistovab_submit(
     ) {
         Ok(done) => {
             write_snapshot(snapshot, done.snapshot);
-            if done.answer == AnswerKind::Computed {
-                write_state(state, done.engine);
+            match done.answer {
+                AnswerKind::Computed => write_state(state, done.engine),
+                AnswerKind::Reread => {}
             }
             code_of(done.answer)
         }
@@ -135,6 +138,7 @@ pub fn kistovab_submit(
 }
 
 // Where there is no age, `age` is left as it is.
+#[tactic(auto, unfolding(crate::specs::Calls::age_code, crate::specs::Calls::age_after, crate::specs::Calls::found_code, crate::specs::Calls::found))]
 pub fn kistovab_support_age(state: &[u64], age: &mut f64) -> u32
     ensures value { result ≡ age_code (length state.now) (support_age (state_in state.now)) }
     ensures number { age.new ≡ age_after (length state.now) (support_age (state_in state.now)) age.old }

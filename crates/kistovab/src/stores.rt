@@ -18,6 +18,7 @@ pub fn kistovab_store_words() -> usize
 }
 
 // A refusal leaves the store as it is.
+#[tactic(auto, unfolding(crate::specs::Stores::keep_code, crate::specs::Stores::kept_after), using(crate::proofs::CallLaws::over))]
 pub fn kistovab_keep(state: &[u64], name: usize, store: &mut [u64]) -> u32
     ensures value { result ≡ keep_code (length state.now) name (length store.old) }
     ensures words { store.new ≡ kept_after (length state.now) (state_in state.now) name store.old }
@@ -33,6 +34,7 @@ pub fn kistovab_keep(state: &[u64], name: usize, store: &mut [u64]) -> u32
 }
 
 // A refusal leaves the state as it is.
+#[tactic(auto, unfolding(crate::specs::Stores::restore_code), using(crate::proofs::CallLaws::over))]
 pub fn kistovab_restore(state: &mut [u64], name: usize, store: &[u64]) -> u32
     ensures value { result ≡ restore_code (length state.old) (restored (state_in state.old) name store.now) }
     ensures words { Restores result (restored (state_in state.old) name store.now) state.old state.new }

@@ -1,7 +1,7 @@
 // A load for test benches.
 ghost use Rattle.std.specs.Prelude.{◌≡◌};
 ghost use Rattle.engine_spec.specs.Lent.{window};
-ghost use Rattle.workload_spec.specs.Fill.{filling_number, filling_of, slices_after};
+ghost use Rattle.workload_spec.specs.Fill.{filling_number, load_refusal, slices_after};
 
 // Fills a reference or a window from a seed, wholly, or refuses and writes nothing.
 #[unsafe(no_mangle)]
@@ -13,7 +13,7 @@ pub extern "C" fn kistovab_fill_load(
     energies: &mut [f64],
     values: &mut [f32],
 ) -> u32
-    ensures value { result ≡ filling_number (filling_of seed hop_ms (window bands times.old energies.old values.old)) }
+    ensures value { result ≡ filling_number (load_refusal seed hop_ms (window bands times.old energies.old values.old)) }
     ensures slices { window bands times.new energies.new values.new ≡ slices_after seed hop_ms (window bands times.old energies.old values.old) }
 {
     kistovab::loads::kistovab_fill_load(seed, hop_ms, bands, times, energies, values)
