@@ -120,13 +120,7 @@ fn search_in(case: Case, index: &Index<'_>) -> Answers
     let mut work32 = [0.0f32; WORK32];
     let mut work64 = [0.0f64; WORK64];
     fill_times(&mut times, BEGIN, case.hop);
-    sound::fill_window(
-        &mut values,
-        case.seed,
-        case.period,
-        case.window,
-        case.from,
-    );
+    sound::fill_window(&mut values, case.seed, case.period, case.window, case.from);
     let window = Features {
         bands: case.bands,
         times: &times[..case.window],
