@@ -1,16 +1,15 @@
 -- What the matcher answers to a case, and whether a line says so. Definitions only.
-use Rattle.std.specs.Prelude.{ℕ, ◌*◌, Bool, false, cond, ◌&&◌, List, replicate, ◌==◌, from_bits, Float}
+use Rattle.std.specs.Prelude.{ℕ, ◌*◌, Bool, false, cond, ◌&&◌, List, length, replicate, ◌==◌, from_bits, Float}
 use Rattle.std.specs.Float.{binary64}
 use Rattle.numbers_spec.specs.Arithmetic.{◌⊕◌, ◌⊖◌, ◌⊗◌, zero⁺, real}
-use Rattle.matcher_spec.specs.Candidates.{result_of}
-use Rattle.matcher_spec.specs.declared.types.MatchResult.{MatchResult}
-use Rattle.matcher_spec.specs.Index.{accepts_reference, filled, lent, lent_bands, lent_matcher, matcher_of}
+use Rattle.matcher_spec.specs.declared.types.Candidate.{Candidate}
+use Rattle.matcher_spec.specs.Index.{Index, accepts_reference, filled, lent, lent_bands, lent_matcher, matcher_of}
 use Rattle.matcher_spec.specs.Search.{local_search, whole_search}
-use Rattle.matcher_spec.specs.Features.{features}
+use Rattle.matcher_spec.specs.Features.{Features, features}
 use Rattle.matcher_spec.specs.declared.types.Reference.{Reference}
 use Rattle.hexadecimal.specs.Hexadecimal.{spaced, word_at}
 use Rattle.matcher_replay.specs.Cases.{case_of, coarse_room, coarse_energy_room, fine_room, fine_energy_room, is_small}
-use Rattle.matcher_replay.specs.Digests.{with_candidates, with_floats}
+use Rattle.matcher_replay.specs.Digests.{padded, with_candidates, with_floats}
 use Rattle.matcher_replay.specs.Sounds.{reference_values, window_values}
 use Rattle.replays.specs.Lines as lists
 use Rattle.replays.specs.Sounds.{times_from}
@@ -19,8 +18,8 @@ use Rattle.matcher_replay.specs.declared.case.Case.{Case}
 
 -- ---- the searches of an index
 -- All of the index, as one word.
-unfoldable pub index_digest : List Float → List Float → List Float → List Float → ℕ
-index_digest fine coarse fine_energy coarse_energy = with_floats (with_floats (with_floats (with_floats 0 fine) coarse) fine_energy) coarse_energy
+unfoldable pub index_digest : Index → ℕ
+index_digest index = with_floats (with_floats (with_floats (with_floats 0 index.fine) index.coarse) index.fine_energy) index.coarse_energy
 
 -- 5,000: the window's first time
 abbrev pub begin : Float
@@ -33,23 +32,23 @@ reference_of c = record { bands = c.bands; frames = c.frames; start_ms = zero⁺
 abbrev pub offset_of : Case → Float
 offset_of c = real c.from ⊗ c.hop ⊖ begin
 
-module _ (c : Case) (fine coarse fine_energy coarse_energy times values : List Float) where
-  unfoldable pub whole_of : MatchResult
-  whole_of = result_of (whole_search (lent_matcher (reference_of c) (lent fine coarse fine_energy coarse_energy)) (features c.bands times values))
+module _ (c : Case) (index : Index) (window : Features) where
+  unfoldable pub whole_of : List Candidate
+  whole_of = whole_search (lent_matcher (reference_of c) index) window
 
   -- `reach` to either side of that offset
-  unfoldable pub local_of : MatchResult
-  local_of = result_of (local_search (reference_of c) (lent_bands c.bands c.frames fine fine_energy) (features c.bands times values) (offset_of c ⊖ c.reach) (offset_of c ⊕ c.reach))
+  unfoldable pub local_of : List Candidate
+  local_of = local_search (reference_of c) (lent_bands c.bands c.frames index.fine index.fine_energy) window (offset_of c ⊖ c.reach) (offset_of c ⊕ c.reach)
 
   unfoldable pub searched_in : Answers
   searched_in =
       record {
         filled = 1;
-        index = index_digest fine coarse fine_energy coarse_energy;
-        whole_count = whole_of.count;
-        whole = with_candidates 0 whole_of.candidates;
-        local_count = local_of.count;
-        local = with_candidates 0 local_of.candidates;
+        index = index_digest index;
+        whole_count = length whole_of;
+        whole = with_candidates 0 (padded whole_of);
+        local_count = length local_of;
+        local = with_candidates 0 (padded local_of);
       }
 
 -- ---- a case
@@ -71,21 +70,26 @@ module _ (c : Case) where
   window_sound = window_values c.seed c.period c.window c.from (c.bands * c.window)
 
   -- The window's searches of an index.
-  unfoldable pub heard_in : List Float → List Float → List Float → List Float → Answers
-  heard_in fine coarse fine_energy coarse_energy = searched_in c fine coarse fine_energy coarse_energy window_times window_sound
+  unfoldable pub heard_in : Index → Answers
+  heard_in index = searched_in c index (features c.bands window_times window_sound)
 
   -- What is heard in the index that four buffers hold once they are filled from the reference.
-  unfoldable pub answers_in : List Float → List Float → List Float → List Float → Answers
-  answers_in fine coarse fine_energy coarse_energy =
+  unfoldable pub answers_in : Index → Answers
+  answers_in old =
       let accepted = accepts_reference c.hop c.bands reference_times reference_sound in
       let m = matcher_of c.hop c.bands reference_times reference_sound in
       cond accepted
-      (heard_in (filled accepted m.fine.values fine) (filled accepted m.coarse.values coarse) (filled accepted m.fine.energy fine_energy) (filled accepted m.coarse.energy coarse_energy))
+      (heard_in
+      (lent
+      (filled accepted m.fine.values old.fine)
+      (filled accepted m.coarse.values old.coarse)
+      (filled accepted m.fine.energy old.fine_energy)
+      (filled accepted m.coarse.energy old.coarse_energy)))
       rejected
 
   -- Zeros stand behind the index.
   unfoldable pub answers_of : Answers
-  answers_of = answers_in (replicate fine_room zero⁺) (replicate coarse_room zero⁺) (replicate fine_energy_room zero⁺) (replicate coarse_energy_room zero⁺)
+  answers_of = answers_in (lent (replicate fine_room zero⁺) (replicate coarse_room zero⁺) (replicate fine_energy_room zero⁺) (replicate coarse_energy_room zero⁺))
 
 -- ---- a line: its last six words are the answers
 unfoldable pub says_of : List ℕ → Answers → Bool

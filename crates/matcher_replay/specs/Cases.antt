@@ -1,8 +1,9 @@
 -- The case that a line says, and which cases this program takes. Definitions only.
-use Rattle.std.specs.Prelude.{ℕ, ◌+◌, ◌*◌, ◌/◌, Bool, cond, ◌&&◌, List, from_bits, nat_le, nat_lt, Float}
+use Rattle.std.specs.Prelude.{◌≡◌, ℕ, ◌+◌, ◌*◌, ◌/◌, Bool, cond, ◌&&◌, List, length, from_bits, nat_le, nat_lt, Float}
 use Rattle.std.specs.Float.{binary64}
 use Rattle.std.specs.Float.Ieee.{le}
 use Rattle.numbers_spec.specs.Arithmetic.{one, zero⁺}
+use Rattle.matcher_spec.specs.Index.{Index}
 use Rattle.hexadecimal.specs.Hexadecimal.{word_at}
 use Rattle.matcher_replay.specs.declared.case.Case.{Case}
 
@@ -41,6 +42,13 @@ work32_room = 2 * window_room
 
 abbrev pub work64_room : ℕ
 work64_room = 3 * (case_bands * (case_window + 1)) + case_frames
+
+-- An index whose buffers are those arrays.
+pub record FitsArrays (index : Index) : Type 0 where
+  pub fine : length index.fine ≡ fine_room
+  pub coarse : length index.coarse ≡ coarse_room
+  pub fine_energy : length index.fine_energy ≡ fine_energy_room
+  pub coarse_energy : length index.coarse_energy ≡ coarse_energy_room
 
 -- At least one of everything, and no more than the arrays hold.
 unfoldable pub is_small : Case → Bool

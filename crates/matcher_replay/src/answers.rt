@@ -1,7 +1,7 @@
 // What the matcher answers to a case, and whether a line says so.
-ghost use Rattle.std.specs.Prelude.{◌≡◌, ◌*◌, true, length, if◌then◌else◌};
+ghost use Rattle.std.specs.Prelude.{◌≡◌, ◌*◌, true, length};
 ghost use Rattle.matcher_replay.specs.Agreement.{answers_of, heard_in, index_digest, line_bytes, rejected, says_of, searched_in};
-ghost use Rattle.matcher_replay.specs.Cases.{coarse_room, coarse_energy_room, fine_room, fine_energy_room, is_small, work32_room, work64_room};
+ghost use Rattle.matcher_replay.specs.Cases.{FitsArrays, is_small, work32_room, work64_room};
 
 use crate::case::{CASE_BANDS, CASE_FRAMES, CASE_WINDOW, Case};
 use crate::{digest, sound};
@@ -9,6 +9,7 @@ use hexadecimal::word_at;
 use matcher::index::fill_index;
 use matcher::local::local_search;
 use matcher::whole::whole_search;
+use matcher_spec::lent::{Features, Index};
 use matcher_spec::types::Reference;
 use replays::digest::with_all;
 use replays::sound::fill_times;
@@ -62,8 +63,6 @@ pub fn answers_to(case: Case) -> Answers
     requires { is_small case ≡ true }
     ensures { result ≡ answers_of case }
 {
-    let frames = case.frames;
-    let size = case.bands * frames;
     let mut times = [0.0f64; CASE_FRAMES];
     let mut values = [0.0f32; FINE];
     let mut fine = [0.0f32; FINE];
@@ -71,58 +70,29 @@ pub fn answers_to(case: Case) -> Answers
     let mut fine_energy = [0.0f64; FINE_ENERGY];
     let mut coarse_energy = [0.0f64; COARSE_ENERGY];
     fill_times(&mut times, 0.0, case.hop);
-    sound::fill_reference(&mut values, case.seed, case.period, frames);
-    let filled = fill_index(
+    sound::fill_reference(&mut values, case.seed, case.period, case.frames);
+    let reference = Features {
+        bands: case.bands,
+        times: &times[..case.frames],
+        values: &values[..case.bands * case.frames],
+    };
+    if !fill_index(
         &mut fine,
         &mut coarse,
         &mut fine_energy,
         &mut coarse_energy,
-        case.bands,
         case.hop,
-        &times[..frames],
-        &values[..size],
-    );
-    search_in(filled, case, &fine, &coarse, &fine_energy, &coarse_energy)
-}
-
-// The window's searches of an index that was filled.
-fn search_in(
-    filled: bool,
-    case: Case,
-    fine: &[f32],
-    coarse: &[f32],
-    fine_energy: &[f64],
-    coarse_energy: &[f64],
-) -> Answers
-    requires case_value_1 { is_small case ≡ true }
-    requires case_value_2 { length fine.now ≡ fine_room }
-    requires case_value_3 { length coarse.now ≡ coarse_room }
-    requires fine_energy_len_1 { length fine_energy.now ≡ fine_energy_room }
-    requires fine_energy_len_2 { length coarse_energy.now ≡ coarse_energy_room }
-    ensures { result ≡ (if filled then heard_in case fine.now coarse.now fine_energy.now coarse_energy.now else rejected) }
-{
-    if !filled {
+        &reference,
+    ) {
         return rejected();
     }
-    let window = case.window;
-    let size = case.bands * window;
-    let mut times = [0.0f64; CASE_WINDOW];
-    let mut values = [0.0f32; WINDOW];
-    let mut work32 = [0.0f32; WORK32];
-    let mut work64 = [0.0f64; WORK64];
-    fill_times(&mut times, BEGIN, case.hop);
-    sound::fill_window(&mut values, case.seed, case.period, window, case.from);
-    search_within(
-        case,
-        fine,
-        coarse,
-        fine_energy,
-        coarse_energy,
-        &times[..window],
-        &values[..size],
-        &mut work32,
-        &mut work64,
-    )
+    let index = Index {
+        fine: &fine,
+        coarse: &coarse,
+        fine_energy: &fine_energy,
+        coarse_energy: &coarse_energy,
+    };
+    search_in(case, &index)
 }
 
 // The answers where the reference is rejected.
@@ -139,28 +109,42 @@ fn rejected() -> Answers
     }
 }
 
+// The window's searches of an index. Its sound, too, is made for all of an array.
+fn search_in(case: Case, index: &Index<'_>) -> Answers
+    requires small { is_small case ≡ true }
+    requires room { FitsArrays index.now }
+    ensures { result ≡ heard_in case index.now }
+{
+    let mut times = [0.0f64; CASE_WINDOW];
+    let mut values = [0.0f32; WINDOW];
+    let mut work32 = [0.0f32; WORK32];
+    let mut work64 = [0.0f64; WORK64];
+    fill_times(&mut times, BEGIN, case.hop);
+    sound::fill_window(&mut values, case.seed, case.period, case.window, case.from);
+    let window = Features {
+        bands: case.bands,
+        times: &times[..case.window],
+        values: &values[..case.bands * case.window],
+    };
+    search_within(case, index, &window, &mut work32, &mut work64)
+}
+
 // Both searches.
 fn search_within(
     case: Case,
-    fine: &[f32],
-    coarse: &[f32],
-    fine_energy: &[f64],
-    coarse_energy: &[f64],
-    times: &[f64],
-    values: &[f32],
+    index: &Index<'_>,
+    window: &Features<'_>,
     work32: &mut [f32],
     work64: &mut [f64],
 ) -> Answers
-    requires case_value_1 { is_small case ≡ true }
-    requires case_value_2 { length fine.now ≡ fine_room }
-    requires case_value_3 { length coarse.now ≡ coarse_room }
-    requires fine_energy_len_1 { length fine_energy.now ≡ fine_energy_room }
-    requires fine_energy_len_2 { length coarse_energy.now ≡ coarse_energy_room }
-    requires times_len_1 { length times.now ≡ case.window }
-    requires times_len_2 { length values.now ≡ case.bands * case.window }
-    requires work32_len_1 { length work32.old ≡ work32_room }
-    requires work32_len_2 { length work64.old ≡ work64_room }
-    ensures { result ≡ searched_in case fine.now coarse.now fine_energy.now coarse_energy.now times.now values.now }
+    requires small { is_small case ≡ true }
+    requires room { FitsArrays index.now }
+    requires bands { window.now.bands ≡ case.bands }
+    requires times { length window.now.times ≡ case.window }
+    requires values { length window.now.values ≡ case.bands * case.window }
+    requires work32_room { length work32.old ≡ work32_room }
+    requires work64_room { length work64.old ≡ work64_room }
+    ensures { result ≡ searched_in case index.now window.now }
 {
     let reference = Reference {
         bands: case.bands,
@@ -168,26 +152,12 @@ fn search_within(
         start_ms: 0.0,
         hop_ms: case.hop,
     };
-    let whole = whole_search(
-        fine,
-        coarse,
-        fine_energy,
-        coarse_energy,
-        reference,
-        case.bands,
-        times,
-        values,
-        work32,
-        work64,
-    );
+    let whole = whole_search(index, reference, window, work32, work64);
     let offset = numbers::float::real(case.from) * case.hop - BEGIN;
     let local = local_search(
-        fine,
-        fine_energy,
+        index,
         reference,
-        case.bands,
-        times,
-        values,
+        window,
         offset - case.reach,
         offset + case.reach,
         work32,
@@ -195,19 +165,19 @@ fn search_within(
     );
     Answers {
         filled: 1,
-        index: digest_of_index(fine, coarse, fine_energy, coarse_energy),
-        whole_count: whole.count as u64,
-        whole: digest::of_result(whole),
-        local_count: local.count as u64,
-        local: digest::of_result(local),
+        index: digest_of_index(index),
+        whole_count: whole.len() as u64,
+        whole: digest::of_candidates(&whole),
+        local_count: local.len() as u64,
+        local: digest::of_candidates(&local),
     }
 }
 
 // All of the index, as one word.
 #[tactic(auto, unfolding(crate::specs::Agreement::index_digest))]
-fn digest_of_index(fine: &[f32], coarse: &[f32], fine_energy: &[f64], coarse_energy: &[f64]) -> u64
-    ensures { result ≡ index_digest fine.now coarse.now fine_energy.now coarse_energy.now }
+fn digest_of_index(index: &Index<'_>) -> u64
+    ensures { result ≡ index_digest index.now }
 {
-    let word = with_all(with_all(0, fine), coarse);
-    with_all(with_all(word, fine_energy), coarse_energy)
+    let word = with_all(with_all(0, index.fine), index.coarse);
+    with_all(with_all(word, index.fine_energy), index.coarse_energy)
 }

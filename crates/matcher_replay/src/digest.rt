@@ -1,7 +1,8 @@
 // One word for the candidates of a search.
 ghost use Rattle.std.specs.Prelude.{◌≡◌};
-ghost use Rattle.matcher_replay.specs.Digests.{with_candidate, with_candidates};
+ghost use Rattle.matcher_replay.specs.Digests.{padded, with_candidate, with_candidates};
 
+use matcher_spec::limits::CANDIDATES_MOST;
 use matcher_spec::types::{Candidate, MatchResult};
 use replays::digest::with_all;
 
@@ -22,11 +23,20 @@ fn with_candidate(word: u64, c: Candidate) -> u64
     )
 }
 
-// Those of all candidates of a result, the blank ones behind the last too.
-pub fn of_result(res: MatchResult) -> u64
-    ensures { result ≡ with_candidates 0 res.candidates }
+// The candidates found, and blank ones behind the last.
+fn padded(found: &MatchResult) -> [Candidate; CANDIDATES_MOST]
+    ensures { result ≡ padded found.now.items }
 {
-    res.candidates
+    let mut eight = [Candidate::default(); CANDIDATES_MOST];
+    eight[..found.len()].copy_from_slice(found);
+    eight
+}
+
+// Those of all that a search found, the blank ones behind the last too.
+pub fn of_candidates(found: &MatchResult) -> u64
+    ensures { result ≡ with_candidates 0 (padded found.now.items) }
+{
+    padded(found)
         .iter()
         .fold(0, |word, c| with_candidate(word, *c))
 }

@@ -8,24 +8,24 @@ use Rattle.matcher_replay.proofs.answers.search_within.Goals as goal
 
 pub whole_search-whole-requires : goal.whole_search-whole-requires
 whole_search-whole-requires c =
-    let s = small _ c.requires.case_value_1 in
-    let e = c.requires.times_len_1 in
-    record { in_range = record { hop = s.limit.wide; some = omega arith; few = omega arith; short = omega arith }; holds = record { value_room = omega arith; energy_room = omega arith }; holds_2 = record { value_room = omega arith; energy_room = omega arith }; values_len_1 = rw e (omega arith); values_len_2 = record { work32_room_lem = rw e (omega arith); work64_room_lem = rw e (omega arith) } }
+    let s = small _ c.requires.small in
+    let r = c.requires in
+    record { in_range = record { hop = s.limit.wide; some = omega arith; few = omega arith; short = omega arith }; holds = record { value_room = omega arith; energy_room = omega arith }; holds_2 = record { value_room = omega arith; energy_room = omega arith }; values_len_1 = rw (r.bands, r.times) r.values; values_len_2 = record { work32_room_lem = rw (r.bands, r.times) (omega arith); work64_room_lem = rw (r.bands, r.times) (omega arith) } }
 
 pub local_search-local-requires : goal.local_search-local-requires
 local_search-local-requires c =
-    let s = small _ c.requires.case_value_1 in
-    let e = c.requires.times_len_1 in
-    record { in_range = record { hop = s.limit.wide; some = omega arith; few = omega arith; short = omega arith }; holds = record { value_room = omega arith; energy_room = omega arith }; values_len_1 = rw e (omega arith); values_len_2 = record { work32_room_lem = rw e (omega arith); work64_room_lem = rw e (omega arith) } }
+    let s = small _ c.requires.small in
+    let r = c.requires in
+    record { in_range = record { hop = s.limit.wide; some = omega arith; few = omega arith; short = omega arith }; holds = record { value_room = omega arith; energy_room = omega arith }; values_len_1 = rw (r.bands, r.times) r.values; values_len_2 = record { work32_room_lem = rw (r.bands, r.times) (omega arith); work64_room_lem = rw (r.bands, r.times) (omega arith) } }
 
 pub returns : goal.returns
 unfolding whole_of of_bits
 returns c =
     let a = c.args in
-    let known = searched a.case a.fine.now a.coarse.now a.fine_energy.now a.coarse_energy.now a.times.now a.values.now in
-    known
-    c.digest_of_index.ensures
-    c.whole_search-whole.ensures.value
-    c.of_result.ensures
-    (located a.case a.fine.now a.coarse.now a.fine_energy.now a.coarse_energy.now a.times.now a.values.now c.real.ensures c.local_search-local.ensures.value)
-    c.of_result-2.ensures
+    searched a.case a.index.now a.window.now c.digest_of_index.ensures
+    c.whole_search-whole.ensures
+    c.len.ensures.value
+    c.of_candidates.ensures
+    (located a.case a.index.now a.window.now c.real.ensures c.local_search-local.ensures)
+    c.len-2.ensures.value
+    c.of_candidates-2.ensures
