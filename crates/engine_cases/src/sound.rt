@@ -45,6 +45,7 @@ fn heard_at(seed: u64, period: usize, heard: Heard, band: usize, frame: usize) -
 }
 
 // The reference, band after band: element i is frame i % n of band i / n.
+// Kept: three lines over this crate's sound; matcher_replay's fills with another.
 pub fn fill_reference(values: &mut [f32], seed: u64, period: usize, n: usize)
     requires repeats { 0 < period }
     requires some { 0 < n }

@@ -5,6 +5,7 @@ ghost use Rattle.engine_spec.specs.Refusals.{number_of};
 use engine_spec::types::Refusal;
 
 // The number of document 01.
+// Kept: two refusals have 6, and a `From` would have to stand in engine_spec, where no code stands.
 #[tactic(auto, unfolding(engine_spec::specs::Refusals::number_of))]
 pub fn number_of(r: Refusal) -> u32
     ensures { result ≡ number_of r }

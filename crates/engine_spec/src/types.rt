@@ -109,6 +109,7 @@ pub struct Diagnostics {
     pub track_count: usize,
     pub offset_tracker_confirmed: bool,
     pub offset_tracker_stable: bool,
+    // Kept: the words of a state have all eight, and what was handed in behind the last is given back.
     pub candidate_count: usize,
     pub candidates: [CandidateDiagnostics; CANDIDATES_MOST],
     pub spectral: SpectralDiagnostics,

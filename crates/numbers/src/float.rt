@@ -42,7 +42,8 @@ pub fn abs(x: f64) -> f64
     if x < 0.0 { -x } else { x }
 }
 
-// The larger of the two, and the floor where x is a NaN. (Of two zeros std's `max` gives either.)
+// The larger of the two, and the floor where x is a NaN.
+// Kept: of two zeros std's `max` and `min` give either, and these say which.
 pub fn at_least(floor: f64, x: f64) -> f64
     ensures { result ≡ at_least floor x }
 {

@@ -61,6 +61,7 @@ fn log_blocks(logs: &mut [f32], w: &[f32])
 }
 
 // The logarithms of a block; the other rows are only worked in.
+// Kept: six rows one by one, since a struct of them would have to be cut for the last block in every pass.
 fn log_block(
     logs: &mut [f32],
     w: &[f32],
