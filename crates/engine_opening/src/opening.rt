@@ -40,10 +40,7 @@ pub fn open(
     check_opening(configuration, hop, reference, &index)?;
     are_f32(reference.values);
     let accepted = fill_index(fine, coarse, fine_energy, coarse_energy, hop, reference);
-    Ok(fresh_engine(
-        configuration,
-        opened_settings(accepted, hop, reference),
-    ))
+    Ok(fresh_engine(configuration, opened_settings(accepted, hop, reference)))
 }
 
 // The settings over a reference that the matcher accepted, or over none.
