@@ -23,9 +23,9 @@ unfolding whole_of of_bits
 returns c =
     let a = c.args in
     searched a.case a.index.now a.window.now c.digest_of_index.ensures
-    c.whole_search-whole.ensures
+    c.whole_search-whole.ensures.value
     c.len.ensures.value
     c.of_candidates.ensures
-    (located a.case a.index.now a.window.now c.real.ensures c.local_search-local.ensures)
+    (located a.case a.index.now a.window.now c.real.ensures c.local_search-local.ensures.value)
     c.len-2.ensures.value
     c.of_candidates-2.ensures
