@@ -12,7 +12,7 @@ use engine_decision::decide::decide;
 use engine_decision::windows::{endpoint_of, is_reread, lock_from};
 use engine_opening::opening::are_f32;
 use engine_refusals::handed::check_submission;
-use engine_spec::lent::{Heard, Window};
+use engine_spec::lent::Window;
 use engine_spec::types::{ClockMs, Engine, Refusal, Submitted};
 use matcher_spec::lent::Index;
 
@@ -35,8 +35,8 @@ pub fn submit(
     ensures held { Every F32 window.now.values }
 {
     are_f32(window.values);
-    let heard = check_submission(engine, index, window, clock, work32.len(), work64.len())?;
-    Ok(answered(engine, index, &heard, clock, work32, work64))
+    check_submission(engine, index, window, clock, work32.len(), work64.len())?;
+    Ok(answered(engine, index, window, clock, work32, work64))
 }
 
 // A submission that is not refused: the last snapshot again, or a computed one.
@@ -44,7 +44,7 @@ pub fn submit(
 fn answered(
     engine: Engine,
     index: &Index<'_>,
-    window: &Heard<'_>,
+    window: &Window<'_>,
     clock: ClockMs,
     work32: &mut [f32],
     work64: &mut [f64],

@@ -1,5 +1,5 @@
 // The answers to a window: read again, or computed.
-ghost use Rattle.std.specs.Prelude.{◌≡◌, Ok};
+ghost use Rattle.std.specs.Prelude.{◌<◌, ◌≤◌, length, ◌≡◌, Ok};
 ghost use Rattle.engine_spec.specs.Submitting.{computed_from, moved, reread, shown_again};
 ghost use Rattle.engine_spec.specs.Results.{submitted};
 ghost use Rattle.engine_decision.specs.Decided.{decision_in};
@@ -8,7 +8,7 @@ use crate::milestones::stamp;
 use engine_decision::kinds::Decision;
 use engine_decision::windows::endpoint_of;
 use engine_snapshot::publish::{estimate_at, publish};
-use engine_spec::lent::Heard;
+use engine_spec::lent::Window;
 use engine_spec::types::{
     AnswerKind, ClockMs, Engine, Estimate, Last, Milestones, RecordedMs, Snapshot, Submitted,
 };
@@ -50,7 +50,9 @@ fn moved(endpoint: RecordedMs, old: Option<Estimate>) -> Option<Estimate>
 
 // A computed answer, and the one place where the next engine is made.
 #[tactic(auto, unfolding(engine_spec::specs::Submitting::computed_from))]
-pub fn computed_from(engine: Engine, window: &Heard<'_>, clock: ClockMs, d: &Decision) -> Submitted
+pub fn computed_from(engine: Engine, window: &Window<'_>, clock: ClockMs, d: &Decision) -> Submitted
+    requires some_frames { 0 < length window.now.times }
+    requires energies { length window.now.times ≤ length window.now.energies }
     ensures { Ok result ≡ submitted (computed_from engine window.now clock (decision_in d.now)) }
 {
     let milestones = stamp(engine.milestones, d.reached, clock);

@@ -11,7 +11,7 @@ use crate::windows::endpoint_of;
 use engine_lock::track::evidence;
 use engine_readiness::readiness;
 use engine_search::search::searched;
-use engine_spec::lent::Heard;
+use engine_spec::lent::Window;
 use engine_spec::types::{Configuration, Lock, Reached, Settings};
 use matcher_spec::lent::Index;
 
@@ -23,7 +23,7 @@ pub fn decide(
     configuration: Configuration,
     settings: Settings,
     index: &Index<'_>,
-    window: &Heard<'_>,
+    window: &Window<'_>,
     reached: Reached,
     lock: Lock,
     work32: &mut [f32],

@@ -1,24 +1,26 @@
 // What a window is by the last computed one: a jump, a re-reading, or neither.
-ghost use Rattle.std.specs.Prelude.{◌&&◌, ◌||◌, not, ◌≡◌};
+ghost use Rattle.std.specs.Prelude.{◌<◌, length, ◌&&◌, ◌||◌, not, ◌≡◌};
 ghost use Rattle.matcher_spec.specs.Timeline.{accepts};
 ghost use Rattle.engine_spec.specs.Windows.{endpoint_of, indexed, jumps_from, rereads, rereads_from};
 ghost use Rattle.engine_spec.specs.Submitting.{lock_from};
 ghost use Rattle.engine_spec.specs.Opening.{no_lock};
 
-use engine_spec::lent::Heard;
+use engine_spec::lent::Window;
 use engine_spec::thresholds::REREAD_MS;
 use engine_spec::types::{Engine, Last, Lock, RecordedMs, Settings};
 use matcher_bands::timeline::accepts_timeline;
 
 // The time of its last frame.
-pub fn endpoint_of(window: &Heard<'_>) -> RecordedMs
+pub fn endpoint_of(window: &Window<'_>) -> RecordedMs
+    requires { 0 < length window.now.times }
     ensures { result ≡ endpoint_of window.now }
 {
     RecordedMs(window.times[window.times.len() - 1])
 }
 
 // Whether the window is a re-reading.
-pub fn is_reread(settings: Settings, last: Last, window: &Heard<'_>) -> bool
+pub fn is_reread(settings: Settings, last: Last, window: &Window<'_>) -> bool
+    requires { 0 < length window.now.times }
     ensures { result ≡ (last.has_snapshot && rereads settings last.endpoint_ms window.now) }
 {
     match last.endpoint_ms {
@@ -28,7 +30,8 @@ pub fn is_reread(settings: Settings, last: Last, window: &Heard<'_>) -> bool
 }
 
 // The lock that a window starts from: none after a jump.
-pub fn lock_from(engine: Engine, window: &Heard<'_>) -> Lock
+pub fn lock_from(engine: Engine, window: &Window<'_>) -> Lock
+    requires { 0 < length window.now.times }
     ensures { result ≡ lock_from engine window.now }
 {
     match engine.last.endpoint_ms {
@@ -40,7 +43,8 @@ pub fn lock_from(engine: Engine, window: &Heard<'_>) -> Lock
 // An endpoint less than 90 past the last computed one, and no jump. The timeline is looked at last,
 // since most windows lie further on.
 #[tactic(auto, unfolding(engine_spec::specs::Windows::rereads_from))]
-fn rereads_from(settings: Settings, last: RecordedMs, window: &Heard<'_>) -> bool
+fn rereads_from(settings: Settings, last: RecordedMs, window: &Window<'_>) -> bool
+    requires { 0 < length window.now.times }
     ensures { result ≡ rereads_from settings last window.now }
 {
     let times = window.times;
@@ -55,7 +59,7 @@ fn rereads_from(settings: Settings, last: RecordedMs, window: &Heard<'_>) -> boo
 }
 
 // On an accepted timeline, or without index.
-fn may_be_read_again(settings: Settings, window: &Heard<'_>) -> bool
+fn may_be_read_again(settings: Settings, window: &Window<'_>) -> bool
     ensures { result ≡ (not (indexed settings) || accepts settings.reference_bands settings.hop_ms window.now.bands window.now.times) }
 {
     settings.reference_frames == 0
@@ -69,7 +73,8 @@ fn may_be_read_again(settings: Settings, window: &Heard<'_>) -> bool
 
 // An endpoint before the last computed one, or a start more than two hops past it.
 #[tactic(auto, unfolding(engine_spec::specs::Windows::jumps_from))]
-fn jumps_from(hop: f64, last: RecordedMs, window: &Heard<'_>) -> bool
+fn jumps_from(hop: f64, last: RecordedMs, window: &Window<'_>) -> bool
+    requires { 0 < length window.now.times }
     ensures { result ≡ jumps_from hop last window.now }
 {
     (endpoint_of(window).0 < last.0) | (window.times[0] > last.0 + 2.0 * hop)

@@ -1,14 +1,14 @@
 // Readiness: why a window cannot be searched.
 #![tactic(auto)]
 
-ghost use Rattle.std.specs.Prelude.{IfNone, ◌<◌, Float, count_by, fold, ◌≡◌};
+ghost use Rattle.std.specs.Prelude.{IfNone, ◌<◌, ◌≤◌, Float, length, count_by, fold, ◌≡◌};
 ghost use Rattle.std.specs.Float.Ieee.{le};
 ghost use Rattle.numbers_spec.specs.Arithmetic.{◌⊕◌, ◌⊘◌, zero⁺};
 ghost use Rattle.numbers_spec.specs.Exponential.{ten_to};
 ghost use Rattle.engine_spec.specs.Thresholds.{ten};
 ghost use Rattle.engine_spec.specs.Readiness.{active_fraction, average_energy, mean_power, minimum_duration, readiness};
 
-use engine_spec::lent::Heard;
+use engine_spec::lent::Window;
 use engine_spec::thresholds::TEN;
 use engine_spec::types::{Configuration, Settings, WithholdReason};
 use matcher_bands::timeline::accepts_timeline;
@@ -24,11 +24,13 @@ fn count_active(energies: &[f64], threshold: f64) -> usize
 }
 
 // The part of the frames that are active.
-pub fn active_fraction(configuration: Configuration, window: &Heard<'_>) -> f64
+pub fn active_fraction(configuration: Configuration, window: &Window<'_>) -> f64
+    requires { length window.now.times ≤ length window.now.energies }
     ensures { result ≡ active_fraction configuration window.now }
 {
+    let n = window.times.len();
     let threshold = configuration.minimum_active_frame_energy_dbfs;
-    real(count_active(window.energies, threshold)) / real(window.times.len())
+    real(count_active(&window.energies[..n], threshold)) / real(n)
 }
 
 // The power 10^(energy / 10).
@@ -46,15 +48,18 @@ fn power_sum(energies: &[f64]) -> f64
 }
 
 // The mean power of the frames.
-fn mean_power(window: &Heard<'_>) -> f64
+fn mean_power(window: &Window<'_>) -> f64
+    requires { length window.now.times ≤ length window.now.energies }
     ensures { result ≡ mean_power window.now }
 {
-    power_sum(window.energies) / real(window.times.len())
+    let n = window.times.len();
+    power_sum(&window.energies[..n]) / real(n)
 }
 
 // The mean power as an energy.
 #[tactic(auto, unfolding(engine_spec::specs::Readiness::average_energy))]
-fn average_energy(window: &Heard<'_>) -> f64
+fn average_energy(window: &Window<'_>) -> f64
+    requires { length window.now.times ≤ length window.now.energies }
     ensures { result ≡ average_energy window.now }
 {
     let mean = mean_power(window);
@@ -84,8 +89,10 @@ pub fn readiness(
     configuration: Configuration,
     settings: Settings,
     confirmed: bool,
-    window: &Heard<'_>,
+    window: &Window<'_>,
 ) -> Option<WithholdReason>
+    requires heard { 0 < length window.now.times }
+    requires measured { length window.now.times ≤ length window.now.energies }
     ensures value { result ≡ readiness configuration settings confirmed window.now }
     ensures indexed { IfNone result (0 < settings.reference_frames) }
 {

@@ -1,5 +1,5 @@
 // The order of refusals.
-ghost use Rattle.std.specs.Prelude.{◌^◌, ◌<◌, ◌≤◌, length, IfOk, ◌≡◌};
+ghost use Rattle.std.specs.Prelude.{◌^◌, ◌<◌, ◌≤◌, length, ◌≡◌};
 ghost use Rattle.std.specs.Result.{result_err};
 ghost use Rattle.engine_spec.specs.Refusals.{handed_refusal, index_fits, lent_refusal, opening_refusal, submission_refusal, valid_window, window_refusal, work_fits};
 ghost use Rattle.engine_spec.specs.Lent.{handed};
@@ -7,7 +7,7 @@ ghost use Rattle.matcher_spec.specs.Limits.{window_most, bands_most};
 
 use crate::ranges::{are_near, are_near_or_not_finite, are_valid_energies, is_hop};
 use crate::states::{are_counts, is_valid_configuration, is_valid_engine};
-use engine_spec::lent::{Heard, Window};
+use engine_spec::lent::Window;
 use engine_spec::types::{ClockMs, Configuration, Engine, Refusal, Settings};
 use matcher_bands::timeline::are_valid;
 use matcher_spec::lent::{Features, Index};
@@ -91,10 +91,9 @@ fn is_valid_window(window: &Window<'_>) -> bool
 }
 
 // 9 to 12: a window alone. Sizes are tested before any product of them.
-#[tactic(auto, unfolding(engine_spec::specs::Refusals::window_refusal, engine_spec::specs::Refusals::valid_window))]
-pub fn check_window<'a>(window: &Window<'a>) -> Result<Heard<'a>, Refusal>
-    ensures value { result_err result ≡ window_refusal window.now }
-    ensures heard { IfOk result (λ h. h ≡ window.now) }
+#[tactic(auto, unfolding(engine_spec::specs::Refusals::window_refusal))]
+pub fn check_window(window: &Window<'_>) -> Result<(), Refusal>
+    ensures { result_err result ≡ window_refusal window.now }
 {
     let n = window.times.len();
     if n == 0 {
@@ -109,12 +108,7 @@ pub fn check_window<'a>(window: &Window<'a>) -> Result<Heard<'a>, Refusal>
     if !are_near(window.times) || !are_valid_energies(window.energies) {
         return Err(Refusal::WindowTimeOutOfRange);
     }
-    Ok(Heard {
-        bands: window.bands,
-        times: window.times,
-        energies: window.energies,
-        values: window.values,
-    })
+    Ok(())
 }
 
 // 13: by the window's bands and frames and the state's frames, a `u16`.
@@ -136,38 +130,36 @@ fn work_fits(
 
 // 6 and 8 to 13: what may be refused of a submission to a state with these settings.
 #[tactic(auto, unfolding(engine_spec::specs::Refusals::handed_refusal))]
-fn check_handed<'a>(
+fn check_handed(
     settings: Settings,
     index: &Index<'_>,
-    window: &Window<'a>,
+    window: &Window<'_>,
     clock: ClockMs,
     room32: usize,
     room64: usize,
-) -> Result<Heard<'a>, Refusal>
-    ensures value { result_err result ≡ handed_refusal settings (handed index.now window.now clock room32 room64) }
-    ensures heard { IfOk result (λ h. h ≡ window.now) }
+) -> Result<(), Refusal>
+    ensures { result_err result ≡ handed_refusal settings (handed index.now window.now clock room32 room64) }
 {
     check_lent(settings, index, clock)?;
-    let heard = check_window(window)?;
+    check_window(window)?;
     let frames = settings.reference_frames as usize;
     if !work_fits(window.bands, window.times.len(), frames, room32, room64) {
         return Err(Refusal::WorkTooShort);
     }
-    Ok(heard)
+    Ok(())
 }
 
 // 7 first: what the state holds.
 #[tactic(auto, unfolding(engine_spec::specs::Refusals::submission_refusal))]
-pub fn check_submission<'a>(
+pub fn check_submission(
     engine: Engine,
     index: &Index<'_>,
-    window: &Window<'a>,
+    window: &Window<'_>,
     clock: ClockMs,
     room32: usize,
     room64: usize,
-) -> Result<Heard<'a>, Refusal>
-    ensures value { result_err result ≡ submission_refusal engine (handed index.now window.now clock room32 room64) }
-    ensures heard { IfOk result (λ h. h ≡ window.now) }
+) -> Result<(), Refusal>
+    ensures { result_err result ≡ submission_refusal engine (handed index.now window.now clock room32 room64) }
 {
     if !is_valid_engine(engine) {
         return Err(Refusal::StateOutOfRange);

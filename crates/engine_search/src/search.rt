@@ -10,7 +10,7 @@ ghost use Rattle.engine_lock.specs.Views.{searched_in, tracked_in};
 use engine_lock::kinds::{Searched, Tracked};
 use engine_lock::rules::{is_due, locally_searched, whole_searched};
 use engine_lock::track::{evidence, followed, may_coast, unsupported};
-use engine_spec::lent::Heard;
+use engine_spec::lent::Window;
 use engine_spec::thresholds::LOCAL_MS;
 use engine_spec::types::{Hypothesis, Lock, Reached, RecordedMs, Settings};
 use matcher::local::local_found;
@@ -27,7 +27,7 @@ pub fn searched(
     granted: bool,
     settings: Settings,
     index: &Index<'_>,
-    window: &Heard<'_>,
+    window: &Window<'_>,
     reached: Reached,
     lock: Lock,
     work32: &mut [f32],
@@ -56,7 +56,7 @@ fn with_track(
     track: Hypothesis,
     settings: Settings,
     index: &Index<'_>,
-    window: &Heard<'_>,
+    window: &Window<'_>,
     reached: Reached,
     lock: Lock,
     work32: &mut [f32],
@@ -95,7 +95,7 @@ fn without_track(
     granted: bool,
     settings: Settings,
     index: &Index<'_>,
-    window: &Heard<'_>,
+    window: &Window<'_>,
     reached: Reached,
     lock: Lock,
     work32: &mut [f32],
@@ -118,11 +118,12 @@ fn without_track(
 fn fill_if(
     whole: bool,
     settings: Settings,
-    window: &Heard<'_>,
+    window: &Window<'_>,
     work32: &mut [f32],
     work64: &mut [f64],
 ) -> bool
     requires in_range { InRange (reference_of settings) }
+    requires values_len { length window.now.values ≡ window.now.bands * length window.now.times }
     requires work_room { WorkRoom (reference_of settings) window.now.bands (length window.now.times) work32.old work64.old }
     ensures { whole ≡ true → FilledQuery (reference_of settings) (query window.now) result work32.new work64.new }
 {
@@ -135,7 +136,7 @@ fn then_whole(
     filled: bool,
     settings: Settings,
     index: &Index<'_>,
-    window: &Heard<'_>,
+    window: &Window<'_>,
     reached: Reached,
     lock: Lock,
     t: Tracked,
@@ -171,16 +172,16 @@ fn then_whole(
 }
 
 // The time of its last frame.
-fn endpoint_of(window: &Heard<'_>) -> RecordedMs
+fn endpoint_of(window: &Window<'_>) -> RecordedMs
+    requires { 0 < length window.now.times }
     ensures { result ≡ endpoint_of window.now }
 {
     RecordedMs(window.times[window.times.len() - 1])
 }
 
 // The window as the matcher takes it.
-fn features_of<'a>(window: &Heard<'a>) -> Features<'a>
-    ensures value { result ≡ query window.now }
-    ensures values_len { length result.values ≡ result.bands * length result.times }
+fn features_of<'a>(window: &Window<'a>) -> Features<'a>
+    ensures { result ≡ query window.now }
 {
     Features {
         bands: window.bands,

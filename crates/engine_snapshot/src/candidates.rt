@@ -1,11 +1,11 @@
 // The candidates as a snapshot shows them.
-ghost use Rattle.std.specs.Prelude.{◌≤◌, length, ◌≡◌};
+ghost use Rattle.std.specs.Prelude.{◌<◌, ◌≤◌, length, ◌≡◌};
 ghost use Rattle.matcher_spec.specs.Limits.{candidates_most};
 ghost use Rattle.engine_spec.specs.Opening.{blank_candidate};
 ghost use Rattle.engine_spec.specs.Publishing.{candidate_array, comparable_frames, coverage};
 ghost use Rattle.engine_spec.specs.Windows.{duration};
 
-use engine_spec::lent::Heard;
+use engine_spec::lent::Window;
 use engine_spec::thresholds::TRIMMED_MS;
 use engine_spec::types::CandidateDiagnostics;
 use matcher_bands::centring::context_frames;
@@ -37,7 +37,7 @@ pub fn candidate_array(
 }
 
 // The window's frames less those that centring trims, here too without the floor of 1.
-pub fn comparable_frames(hop: f64, window: &Heard<'_>) -> usize
+pub fn comparable_frames(hop: f64, window: &Window<'_>) -> usize
     ensures { result ≡ comparable_frames hop window.now }
 {
     let trimmed = count(context_frames(hop));
@@ -46,7 +46,8 @@ pub fn comparable_frames(hop: f64, window: &Heard<'_>) -> usize
 }
 
 // The part of the window that centring leaves, by its duration.
-pub fn coverage(window: &Heard<'_>) -> f64
+pub fn coverage(window: &Window<'_>) -> f64
+    requires { 0 < length window.now.times }
     ensures { result ≡ coverage window.now }
 {
     let duration = duration_of(window);
@@ -54,7 +55,8 @@ pub fn coverage(window: &Heard<'_>) -> f64
 }
 
 // Its last time less its first.
-pub fn duration_of(window: &Heard<'_>) -> f64
+pub fn duration_of(window: &Window<'_>) -> f64
+    requires { 0 < length window.now.times }
     ensures { result ≡ duration window.now }
 {
     window.times[window.times.len() - 1] - window.times[0]

@@ -1,5 +1,5 @@
 // The diagnostics of a snapshot.
-ghost use Rattle.std.specs.Prelude.{cond, ◌≡◌};
+ghost use Rattle.std.specs.Prelude.{◌<◌, ◌≤◌, length, cond, ◌≡◌};
 ghost use Rattle.numbers_spec.specs.Arithmetic.{zero⁺, magnitude};
 ghost use Rattle.matcher_spec.specs.Candidates.{margin_of};
 ghost use Rattle.engine_spec.specs.Publishing.{diagnostics_of, magnitude_of, count_of_track};
@@ -11,7 +11,7 @@ use crate::spectral::spectral_of;
 use engine_decision::kinds::Decision;
 use engine_decision::verdict::is_ambiguous;
 use engine_readiness::active_fraction;
-use engine_spec::lent::Heard;
+use engine_spec::lent::Window;
 use engine_spec::types::{Configuration, Diagnostics, Hypothesis, State};
 use matcher_picks::candidates::margin;
 use matcher_spec::types::Candidate;
@@ -20,9 +20,11 @@ use matcher_spec::types::Candidate;
 pub fn diagnostics_of(
     configuration: Configuration,
     hop: f64,
-    window: &Heard<'_>,
+    window: &Window<'_>,
     d: &Decision,
 ) -> Diagnostics
+    requires some_frames { 0 < length window.now.times }
+    requires energies { length window.now.times ≤ length window.now.energies }
     ensures { result ≡ diagnostics_of configuration hop window.now (decision_in d.now) }
 {
     let publishing = is_publishing(d.verdict.state);

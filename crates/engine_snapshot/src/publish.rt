@@ -1,5 +1,5 @@
 // The snapshot of a decision (engine.rs, `publish`).
-ghost use Rattle.std.specs.Prelude.{cond, ◌≡◌};
+ghost use Rattle.std.specs.Prelude.{◌<◌, ◌≤◌, length, cond, ◌≡◌};
 ghost use Rattle.matcher_spec.specs.declared.types.Candidate.{Candidate};
 ghost use Rattle.engine_spec.specs.Publishing.{between_zero_and_one, confidence_of, estimate_at, of_best, phase_of, publish, stage_of, track_correlation};
 ghost use Rattle.engine_spec.specs.Cases.{is_publishing};
@@ -9,7 +9,7 @@ use crate::diagnostics::{diagnostics_of, is_publishing};
 use crate::spectral::best_or_blank;
 use engine_decision::kinds::Decision;
 use engine_decision::windows::endpoint_of;
-use engine_spec::lent::Heard;
+use engine_spec::lent::Window;
 use engine_spec::thresholds::COAST_MOST_MS;
 use engine_spec::types::{
     Configuration, Estimate, Hypothesis, LockPhase, Milestones, Reached, RecordedMs, ReferenceMs,
@@ -21,10 +21,12 @@ use engine_spec::types::{
 pub fn publish(
     configuration: Configuration,
     hop: f64,
-    window: &Heard<'_>,
+    window: &Window<'_>,
     d: &Decision,
     milestones: Milestones,
 ) -> Snapshot
+    requires some_frames { 0 < length window.now.times }
+    requires energies { length window.now.times ≤ length window.now.energies }
     ensures { result ≡ publish configuration hop window.now (decision_in d.now) milestones }
 {
     let verdict = d.verdict;

@@ -6,7 +6,7 @@ use Rattle.engine_refusals.proofs.handed.check_handed.Goals as goal
 
 pub work_fits-requires : goal.work_fits-requires
 work_fits-requires c =
-    let k = small _ (sym c.in_ok-heard.ensures.value) in
+    let k = small _ (sym c.in_ok-check_window.ensures) in
     record {
       few_bands = omega (arith, k.bands, ap (λ (w : Window). w.bands) c.window.view_is);
       few_frames = omega (arith, k.frames, ap (λ (w : Window). length w.times) c.window.view_is);
