@@ -7,8 +7,8 @@ ghost use Rattle.matcher_spec.specs.Limits.{frames_most, bands_most};
 use engine_decision::windows::no_lock;
 use engine_snapshot::candidates::blank_candidate;
 use engine_spec::types::{
-    Configuration, Diagnostics, Engine, Last, LockPhase, Milestones, ReferenceMs, Settings, Snapshot,
-    SpectralDiagnostics, Stage, State,
+    Configuration, Diagnostics, Engine, Last, LockPhase, Milestones, ReferenceMs, Settings,
+    Snapshot, SpectralDiagnostics, Stage, State,
 };
 use matcher_spec::lent::Features;
 use matcher_spec::limits::CANDIDATES_MOST;
