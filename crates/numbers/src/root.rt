@@ -80,6 +80,8 @@ fn root_digits(n: Normal) -> u64
 }
 
 // The whole number nearest to the root of n, from a guess c.
+// Kept: n and its facts one by one, since with a struct of them the proof of `polish`, which is found
+// by search, is not found any more.
 fn near_root(c: u64, n: u128) -> u64
     requires c_some { 0 < c }
     requires c_most { c ≤ 2 ^ 53 }
