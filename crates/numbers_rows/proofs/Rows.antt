@@ -12,8 +12,13 @@ use lib.Ieee.{Float, nan}
 use Rattle.numbers_spec.specs.Narrow.{nearest_f32}
 use Rattle.numbers_spec.specs.Root.{root_of}
 use Rattle.numbers_spec.specs.Logarithm.{log1p_of}
-use Rattle.numbers_spec.specs.Rows.{logs_of, narrowed_of, roots_of}
-use Rattle.numbers_spec.proofs.RowLaws.{length_logs, length_narrowed, length_roots, log_at_lem, narrowed_at, root_at}
+use Rattle.numbers_spec.specs.Rows.{tabulate, logs_of, narrowed_of, roots_of}
+use Rattle.numbers_spec.proofs.RowLaws.{length_tabulate, get_d_tabulate, length_logs, length_narrowed, length_roots, log_at_lem, narrowed_at, root_at}
+
+-- ---- a row of which each place holds what a rule gives of the place, whatever is read past its end
+pub tabulated : {A : Type 0} (g : ℕ → A) (n : ℕ) {row : List A} → length row ≡ n → ((d : A) (k : ℕ) → k < n → get_or row k d ≡ g k) → row ≡ tabulate g n
+tabulated g n {row} e h =
+    ext_get_or (g 0) row (tabulate g n) (e ∙ sym (length_tabulate g n)) (λ k b. h (g 0) k (subst (λ (m : ℕ). k < m) e b) ∙ sym (get_d_tabulate g n k (g 0) (subst (λ (m : ℕ). k < m) e b)))
 
 -- ---- a row of which each place holds what a function gives of that of x
 module _ (x row : List Float) (e : length row ≡ length x) where

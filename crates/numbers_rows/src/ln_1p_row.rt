@@ -20,28 +20,10 @@ pub fn ln_1p_row(logs: &mut [f32], w: &[f32])
     requires { length logs.old ≡ length w.now }
     ensures { logs.new ≡ logs_of w.now }
 {
-    if all_by(w.len(), |i| is_below(w[i])) {
-        log_blocks(logs, w);
+    if !all_by(w.len(), |i| is_below(w[i])) {
+        fill_by(logs, |i| ln_1p(w[i]));
         return;
     }
-    fill_by(logs, |i| ln_1p(w[i]));
-}
-
-fn is_below(w: f32) -> bool
-    ensures { result ≡ true → Below w }
-{
-    w < f32::INFINITY
-}
-
-// So many numbers go through the passes together that the working rows stay in the nearest cache.
-pub const BLOCK: usize = 120;
-
-// Block after block.
-fn log_blocks(logs: &mut [f32], w: &[f32])
-    requires same_len { length logs.old ≡ length w.now }
-    requires below { AllBelow w.now }
-    ensures { logs.new ≡ logs_of w.now }
-{
     let mut near = [0.0f64; BLOCK];
     let mut powers = [0.0f64; BLOCK];
     let mut ratios = [0.0f64; BLOCK];
@@ -59,6 +41,15 @@ fn log_blocks(logs: &mut [f32], w: &[f32])
         );
     }
 }
+
+fn is_below(w: f32) -> bool
+    ensures { result ≡ true → Below w }
+{
+    w < f32::INFINITY
+}
+
+// So many numbers go through the passes together that the working rows stay in the nearest cache.
+pub const BLOCK: usize = 120;
 
 // The logarithms of a block; the other rows are only worked in.
 // Kept: six rows one by one, since a struct of them would have to be cut for the last block in every pass.
@@ -79,13 +70,15 @@ fn log_block(
     ensures { logs.new ≡ logs_of w.now }
 {
     split_row(near, powers, w);
-    fill_by(ratios, |k| ratio(w[k], near[k]));
+    fill_by(ratios, |k| ratio(wide(w[k]), near[k]));
     series_row(sums, ratios);
     fill_by(near, |k| join(powers[k], ratios[k], sums[k]));
     narrow_row(logs, near);
 }
 
 // m and e of each 1 + w.
+// Kept: two rows in one pass, since a pass for each works out the mantissas twice, and a row of
+// logarithms took 18.6 ns a number for 15.9.
 fn split_row(near: &mut [f64], powers: &mut [f64], w: &[f32])
     requires near_len { length near.old ≡ length w.now }
     requires powers_len { length powers.old ≡ length w.now }
@@ -94,25 +87,10 @@ fn split_row(near: &mut [f64], powers: &mut [f64], w: &[f32])
     ensures powers_are { Holds power w.now powers.new }
 {
     for k in 0..w.len() {
-        near[k] = near_one(w[k]);
-        powers[k] = power(w[k]);
+        let x = wide(w[k]);
+        near[k] = near_one(x);
+        powers[k] = power(x);
     }
-}
-
-fn near_one(w: f32) -> f64
-    requires { Below w }
-    ensures { result ≡ near_one w }
-{
-    halved(mantissa(1.0 + wide(w)))
-}
-
-fn power(w: f32) -> f64
-    requires { Below w }
-    ensures { result ≡ power w }
-{
-    let x = wide(w);
-    let v = 1.0 + x;
-    by_size(x, -0.0, raised(exponent(v), mantissa(v)))
 }
 
 // w, which is no NaN, as an f64.
@@ -123,6 +101,21 @@ fn wide(w: f32) -> f64
     w as f64
 }
 
+#[tactic(auto, unfolding(crate::specs::Logs::near_one))]
+fn near_one(x: f64) -> f64
+    ensures { result ≡ near_one x }
+{
+    halved(mantissa(1.0 + x))
+}
+
+#[tactic(auto, unfolding(crate::specs::Logs::power))]
+fn power(x: f64) -> f64
+    ensures { result ≡ power x }
+{
+    let v = 1.0 + x;
+    by_size(x, -0.0, raised(exponent(v), mantissa(v)))
+}
+
 // The one of two that `ln_1p` takes up to 0.375, or the one above.
 fn by_size(x: f64, small: f64, large: f64) -> f64
     ensures { result ≡ cond (le x series_most) small large }
@@ -130,11 +123,9 @@ fn by_size(x: f64, small: f64, large: f64) -> f64
     if x <= SERIES_MOST { small } else { large }
 }
 
-fn ratio(w: f32, m: f64) -> f64
-    requires { Below w }
-    ensures { result ≡ ratio w m }
+fn ratio(x: f64, m: f64) -> f64
+    ensures { result ≡ ratio x m }
 {
-    let x = wide(w);
     by_size(x, x, m - 1.0) / by_size(x, 2.0 + x, m + 1.0)
 }
 

@@ -15,9 +15,9 @@ returns c =
     let sums = c.series_row.new.sums in
     all_logged w _ (omega arith)
     (λ k h.
-    let s : get_or ratios k nan ≡ ratio (get_or w k nan) (get_or c.split_row.new.near k nan) = let e = c.fill_by.ensures nan k (omega arith) in search rules in
+    let s : get_or ratios k nan ≡ ratio (get_or w k nan) (get_or c.split_row.new.near k nan) = let e = c.fill_by.ensures.each nan k (omega arith) in search rules in
     let x : get_or c.fill_by-2.new.out k nan ≡ joined (get_or powers k nan) (get_or ratios k nan) (get_or sums k nan) =
-    let e = c.fill_by-2.ensures nan k (omega arith) in search rules in
+    let e = c.fill_by-2.ensures.each nan k (omega arith) in search rules in
     logged_at (get_or w k nan) (c.type_inv.w k) (c.requires.below k h)
     (c.split_row.ensures.powers_are k h) (c.split_row.ensures.near_are k h) s (c.series_row.ensures k (omega arith)) x
     (ap (λ l. get_or l k nan) c.narrow_row.ensures ∙ narrowed_at _ k))

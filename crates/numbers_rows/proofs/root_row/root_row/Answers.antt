@@ -6,8 +6,8 @@ use Rattle.numbers_rows.proofs.root_row.root_row.Goals as goal
 
 pub returns-then-all_by : goal.returns-then-all_by
 returns-then-all_by c =
-    all_rooted c.args.x.now _ (omega arith) (λ k h. let e = c.all_by.ensures c.if-all_by.true k h in search rules)
+    all_rooted c.args.x.now _ (omega arith) (λ k h. let e = c.all_by.ensures.all c.if-all_by.true k h in search rules)
 
 pub returns : goal.returns
 returns c =
-    all_rooted c.args.x.now _ (omega arith) (λ k h. let e = c.fill_by-2.ensures nan k (omega arith) in search rules)
+    all_rooted c.args.x.now _ (omega arith) (λ k h. let e = c.fill_by-2.ensures.each nan k (omega arith) in search rules)

@@ -1,7 +1,7 @@
--- `numbers_rows::ln_1p_row::log_blocks` meets its contract: the logarithms of the blocks so far stand, and the working rows have their room. Assumes nothing.
+-- `numbers_rows::ln_1p_row::ln_1p_row` meets its contract: the logarithms of the blocks so far stand, and the working rows have their room. Assumes nothing.
 use Rattle.std.proofs.Common.{◌≡◌, take, length}
 use Rattle.numbers_spec.specs.Rows.{logs_of}
-use Rattle.numbers_rows.proofs.ln_1p_row.log_blocks.Given as goal
+use Rattle.numbers_rows.proofs.ln_1p_row.ln_1p_row.Given as goal
 
 abbrev pub invariant-loop-at : goal.invariant-loop-at
 invariant-loop-at l =
