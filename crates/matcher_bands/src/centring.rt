@@ -8,12 +8,13 @@ ghost use Rattle.matcher_spec.specs.Centring.{centred, centred_at, context_frame
 ghost use Rattle.numbers_spec.specs.Narrow.{nearest_f32};
 ghost use Rattle.numbers_spec.specs.Rows.{logs_of, row, rows, tabulate};
 
-use crate::rows::{fill_by, fill_sums};
+use crate::rows::fill_sums;
 use matcher_spec::constants::CONTEXT_MS;
 use numbers::float::{at_least, real, widen};
 use numbers::whole::{count, round};
 use numbers_rows::ln_1p_row::{BLOCK, ln_1p_row};
 use numbers_rows::narrow_row::narrow_row;
+use numbers_rows::passes::fill_by;
 
 // 250 ms in frames, rounded: 0 at a hop above 500.
 #[tactic(auto, unfolding(matcher_spec::specs::Centring::context_frames))]
@@ -140,14 +141,25 @@ fn take_off(row: &mut [f32], means: &[f32], from: usize)
     }
 }
 
-// Centres a row of logs: `count` of its frames from `from` on, at the row's front. The other logs
+// How bands of `frames` frames are centred: `count` frames of each, from `from` on, less the means
+// over the frames up to `radius` away.
+#[derive(Clone, Copy)]
+pub struct Centring {
+    pub frames: usize,
+    pub radius: usize,
+    pub from: usize,
+    pub count: usize,
+    ghost some: { 0 < frames },
+    ghost small: { radius ≤ radius_most },
+    ghost within: { from + count ≤ frames },
+}
+
+// Centres a row of logs: those frames of it that are asked for, at the row's front. The other logs
 // stay, and `sums` holds the prefix sums of all.
-fn centre_band(row: &mut [f32], sums: &mut [f64], radius: usize, from: usize, count: usize)
+fn centre_band(row: &mut [f32], sums: &mut [f64], centring: Centring)
     requires one_sum_more { length sums.old ≡ length row.old + 1 }
-    requires small { radius ≤ radius_most }
-    requires row_room { from + count ≤ length row.old }
-    requires some { 0 < length row.old }
-    ensures row_after { row.new ≡ tabulate (λ (i : ℕ). centred_at radius row.old (from + i)) count ++ drop count row.old }
+    requires size { length row.old ≡ centring.frames }
+    ensures row_after { row.new ≡ tabulate (λ (i : ℕ). centred_at centring.radius row.old (centring.from + i)) centring.count ++ drop centring.count row.old }
     ensures sums_after { sums.new ≡ prefix_sums row.old }
 {
     fill_sums(sums, row, |v| v);
@@ -155,40 +167,35 @@ fn centre_band(row: &mut [f32], sums: &mut [f64], radius: usize, from: usize, co
         sums,
         first: row[0],
         last: row[row.len() - 1],
-        radius,
+        radius: centring.radius,
     };
-    smoothing.centre(row, from, count);
+    smoothing.centre(row, centring.from, centring.count);
 }
 
-// Takes the logs of each band and centres them, band after band: `count` frames of each, from
-// `from` on. A band is worked out in the `frames` places from its own start on, so the next one's
-// follows at once, and the last is followed by those of its logs that no frame replaced.
+// Takes the logs of each band and centres them, band after band. A band is worked out in the
+// `frames` places from its own start on, so the next one's follows at once, and the last is followed
+// by those of its logs that no frame replaced.
 pub fn centre_bands(
     out: &mut [f32],
     sums: &mut [f64],
     values: &[f32],
     bands: usize,
-    frames: usize,
-    radius: usize,
-    from: usize,
-    count: usize,
+    centring: Centring,
 )
-    requires frames_in_bounds_1 { bands * frames ≤ length values.now }
-    requires frames_in_bounds_2 { bands * count + (frames - count) ≤ length out.old }
-    requires frames_in_bounds_3 { length sums.old ≡ frames + 1 }
-    requires frames_nonzero_1 { 0 < frames }
-    requires frames_nonzero_2 { radius ≤ radius_most }
-    requires frames_nonzero_3 { from + count ≤ frames }
-    ensures out_after { take (bands * count) out.new ≡ rows (λ (b : ℕ). take count (drop from (centred radius (row frames values.now b)))) bands }
-    ensures out_after_2 { take (frames - count) (drop (bands * count) out.new) ≡ last_or (take (frames - count) out.old) (λ (b : ℕ). drop count (logs_of (row frames values.now b))) bands }
-    ensures out_unchanged { drop (bands * count + (frames - count)) out.new ≡ drop (bands * count + (frames - count)) out.old }
-    ensures sums_after { sums.new ≡ last_or sums.old (λ (b : ℕ). prefix_sums (logs_of (row frames values.now b))) bands }
+    requires values_room { bands * centring.frames ≤ length values.now }
+    requires out_room { bands * centring.count + (centring.frames - centring.count) ≤ length out.old }
+    requires one_sum_more { length sums.old ≡ centring.frames + 1 }
+    ensures out_after { take (bands * centring.count) out.new ≡ rows (λ (b : ℕ). take centring.count (drop centring.from (centred centring.radius (row centring.frames values.now b)))) bands }
+    ensures out_after_2 { take (centring.frames - centring.count) (drop (bands * centring.count) out.new) ≡ last_or (take (centring.frames - centring.count) out.old) (λ (b : ℕ). drop centring.count (logs_of (row centring.frames values.now b))) bands }
+    ensures out_unchanged { drop (bands * centring.count + (centring.frames - centring.count)) out.new ≡ drop (bands * centring.count + (centring.frames - centring.count)) out.old }
+    ensures sums_after { sums.new ≡ last_or sums.old (λ (b : ℕ). prefix_sums (logs_of (row centring.frames values.now b))) bands }
 {
+    let frames = centring.frames;
     for b in 0..bands {
-        let at = b * count;
+        let at = b * centring.count;
         let start = b * frames;
         let band = &mut out[at..at + frames];
         ln_1p_row(band, &values[start..start + frames]);
-        centre_band(band, sums, radius, from, count);
+        centre_band(band, sums, centring);
     }
 }

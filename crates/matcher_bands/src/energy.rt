@@ -1,12 +1,13 @@
 // Energies of bands, and bands averaged by fours.
-ghost use Rattle.std.specs.Prelude.{ℕ, ◌+◌, ◌-◌, ◌*◌, ◌/◌, ◌<◌, ◌≤◌, drop, length, take, [], ◌++◌, ◌≡◌};
+ghost use Rattle.std.specs.Prelude.{ℕ, ◌+◌, ◌-◌, ◌*◌, ◌/◌, ◌<◌, ◌≤◌, drop, length, [], ◌++◌, ◌≡◌};
 ghost use Rattle.matcher_spec.specs.Energy.{all_averages, all_energies, average, averages, bands_of, energies, whole_energies};
 ghost use Rattle.numbers_spec.specs.Arithmetic.{zero⁺};
 ghost use Rattle.numbers_spec.specs.Rows.{tabulate};
 ghost use Rattle.matcher_spec.specs.Limits.{bands_most};
 
-use crate::rows::{fill_bands, fill_by, fill_sums};
+use crate::rows::{fill_bands, fill_sums};
 use matcher_spec::limits::BANDS_MOST;
+use numbers_rows::passes::fill_by;
 
 // Fills the row with the prefix sums of the squares: one more than there are values.
 fn fill_energy(row: &mut [f64], values: &[f32])
@@ -17,6 +18,8 @@ fn fill_energy(row: &mut [f64], values: &[f32])
 }
 
 // Fills each band's row in its own stretch of the slice; what is past the last stays.
+// Kept: slices with bands and n, here and below: a `Bands` holds values and energies, both to be
+// read, and these functions fill one of the two, or ask for one alone.
 pub fn fill_energies(energy: &mut [f64], values: &[f32], bands: usize, n: usize)
     requires fact_1 { bands * n ≤ length values.now }
     requires fact_2 { bands * (n + 1) ≤ length energy.old }
@@ -66,14 +69,4 @@ pub fn reduce_bands(out: &mut [f32], values: &[f32], bands: usize, n: usize)
     ensures { out.new ≡ all_averages bands n values.now ++ drop (bands * (n / 4)) out.old }
 {
     fill_bands(out, values, bands, n, n / 4, fill_averages);
-}
-
-// The bands at the slice's front, averaged by fours, written from `to` on in the same slice.
-pub fn reduce_within(work: &mut [f32], bands: usize, n: usize, to: usize)
-    requires fact_1 { bands * n ≤ to }
-    requires fact_2 { to + bands * (n / 4) ≤ length work.old }
-    ensures { work.new ≡ take to work.old ++ all_averages bands n work.old ++ drop (to + bands * (n / 4)) work.old }
-{
-    let (front, back) = work.split_at_mut(to);
-    reduce_bands(back, front, bands, n);
 }

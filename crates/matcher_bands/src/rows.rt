@@ -1,19 +1,9 @@
-// Passes that rows share: each element by a rule, prefix sums, one band after the other.
+// Passes that rows share: prefix sums, one band after the other.
 ghost use Rattle.std.specs.Prelude.{ℕ, ◌+◌, ◌*◌, ◌<◌, ◌≤◌, List, Float, drop, get_or, length, ◌++◌, ◌≡◌};
 ghost use Rattle.std.specs.Float.{nan};
 ghost use Rattle.numbers_spec.specs.Rows.{row, rows, sum_to, tabulate};
 
 use numbers::float::widen;
-
-// Fills the row: element k is what `f` makes of k.
-pub fn fill_by<T: Copy, F: Fn(usize) -> T>(row: &mut [T], f: F)
-    requires { (k : ℕ) → k < length row.old → F.pre f k }
-    ensures { (g : ℕ → T) → ((k : ℕ) (x : T) → k < length row.old → F.post f k x → x ≡ g k) → row.new ≡ tabulate g (length row.old) }
-{
-    for k in 0..row.len() {
-        row[k] = f(k);
-    }
-}
 
 // Fills the row with the prefix sums of what `term` makes of each value: one more than there are values.
 pub fn fill_sums<F: Fn(f64) -> f64>(sums: &mut [f64], values: &[f32], term: F)

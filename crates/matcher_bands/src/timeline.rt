@@ -42,6 +42,8 @@ pub fn is_regular(times: &[f64], hop: f64) -> bool
 }
 
 // Whether a window's timeline is regular and has the reference's number of bands.
+// Kept: two things of the reference and two of the window, which the matcher and the engine have in
+// structs of different kinds.
 #[tactic(auto, unfolding(matcher_spec::specs::Timeline::accepts))]
 pub fn accepts_timeline(bands: usize, hop: f64, window_bands: usize, times: &[f64]) -> bool
     ensures { result ≡ accepts bands hop window_bands times.now }

@@ -7,14 +7,16 @@ use Rattle.matcher_bands.proofs.centring.centre_bands.Goals as goal
 pub loop-b-init : goal.loop-b-init
 loop-b-init c =
     let a = c.args in
-    centred_none a.frames a.radius a.from a.count a.values.now a.out.now a.sums.now
+    let how = a.centring in
+    centred_none how.frames how.radius how.from how.count a.values.now a.out.now a.sums.now
 
 pub loop-b-preserved : goal.loop-b-preserved
 loop-b-preserved c =
     let a = c.args in
+    let how = a.centring in
     let b = c.loop-b.b in
-    let within : (b * a.frames + a.frames ≤ length a.values.now) × (b * a.count + a.frames ≤ length a.out.now) =
-    omega (arith, row_within b a.bands a.frames c.loop-b-test.true, row_within b a.bands a.count c.loop-b-test.true) in
+    let within : (b * how.frames + how.frames ≤ length a.values.now) × (b * how.count + how.frames ≤ length a.out.now) =
+    omega (arith, row_within b a.bands how.frames c.loop-b-test.true, row_within b a.bands how.count c.loop-b-test.true) in
     let done = c.centre_band in
-    centred_more a.frames a.radius a.from a.count a.values.now a.out.now a.sums.now b (b * a.count + a.frames - b * a.count) c.requires.frames_nonzero_3 within.0 within.1 refl
-    c.loop-b.invariant c.ln_1p_row.ensures done.ensures.row_after done.ensures.sums_after (done.auto.row ∙ c.ln_1p_row.auto.logs ∙ mid_len (b * a.count) (b * a.count + a.frames) c.loop-b.out (omega (arith, within)))
+    centred_more how.frames how.radius how.from how.count a.values.now a.out.now a.sums.now b (b * how.count + how.frames - b * how.count) how.within within.0 within.1 refl
+    c.loop-b.invariant c.ln_1p_row.ensures done.ensures.row_after done.ensures.sums_after (done.auto.row ∙ c.ln_1p_row.auto.logs ∙ mid_len (b * how.count) (b * how.count + how.frames) c.loop-b.out (omega (arith, within)))

@@ -4,4 +4,4 @@ use Rattle.matcher_bands.proofs.CentringLaws.{Centred}
 use Rattle.matcher_bands.proofs.centring.centre_bands.Given as goal
 
 abbrev pub invariant-loop-b : goal.invariant-loop-b
-invariant-loop-b l = Centred l.frames l.radius l.from l.count l.values l.initial.out l.initial.sums l.b l.out l.sums
+invariant-loop-b l = Centred l.centring.frames l.centring.radius l.centring.from l.centring.count l.values l.initial.out l.initial.sums l.b l.out l.sums
