@@ -4,7 +4,7 @@ ghost use Rattle.matcher_spec.specs.Centring.{centred, kept, radius_most};
 ghost use Rattle.matcher_spec.specs.Energy.{all_energies, Holds};
 ghost use Rattle.numbers_spec.specs.Rows.{row, rows};
 
-use matcher_bands::centring::centre_bands;
+use matcher_bands::centring::{Centring, centre_bands};
 use matcher_bands::energy::fill_energies;
 use matcher_spec::lent::Features;
 
@@ -31,15 +31,18 @@ pub fn fill_centred(
     let bands = source.bands;
     let frames = source.times.len();
     let n = frames - 2 * cut;
+    let centring = Centring {
+        frames,
+        radius,
+        from: cut,
+        count: n,
+    };
     centre_bands(
         values,
         &mut energy[..frames + 1],
         source.values,
         bands,
-        frames,
-        radius,
-        cut,
-        n,
+        centring,
     );
     fill_energies(energy, &values[..bands * n], bands, n);
 }

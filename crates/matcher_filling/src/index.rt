@@ -19,6 +19,7 @@ pub fn accepts_reference(hop: f64, reference: &Features<'_>) -> bool
 }
 
 // The coarse half of the index: each band averaged by fours, and its energies.
+// Kept: slices with bands and n, since two of the slices are filled, and a `Bands` is to be read.
 fn fill_coarse(coarse: &mut [f32], energy: &mut [f64], fine: &[f32], bands: usize, n: usize)
     requires n_in_bounds { bands * n ≤ length fine.now }
     requires holds { Holds bands (n / 4) coarse.old energy.old }
@@ -32,6 +33,7 @@ fn fill_coarse(coarse: &mut [f32], energy: &mut [f64], fine: &[f32], bands: usiz
 
 // Fills the fronts of the four buffers from the reference, and says so. Where the reference is
 // rejected, nothing is written.
+// Kept: four slices, since they are filled, and an `Index` is to be read.
 pub fn fill_index(
     fine: &mut [f32],
     coarse: &mut [f32],

@@ -16,7 +16,7 @@ use workload_spec::types::LoadRefusal;
 const ENERGY: f64 = -20.0;
 
 // Fills the slices from the seed, wholly; where it refuses, they are as they were.
-// Kept: three slices, as the C interface lends them flat.
+// Kept: three slices, which are filled, and which the C call lends flat.
 pub fn fill(
     seed: u64,
     hop: f64,
