@@ -8,7 +8,7 @@ use matcher_candidates::candidate::best_candidate;
 use matcher_candidates::comparison::Comparison;
 use matcher_filling::query::fill_query;
 use matcher_picks::candidates::nothing_found;
-use matcher_spec::lent::{Features, Fine};
+use matcher_spec::lent::{Features, Fine, Paired};
 use matcher_spec::types::MatchResult;
 use numbers::float::{at_least, at_most, is_finite, real};
 use numbers::whole::{ceil, count, floor};
@@ -58,8 +58,10 @@ pub fn local_found(
     let (energy, scores) = work64.split_at_mut(energies_end);
     let compared = Comparison {
         reference: fine.reference,
-        fine: fine.bands,
-        query: front_bands(fine.reference.bands, n, work32, energy),
+        bands: Paired {
+            reference: fine.bands,
+            query: front_bands(fine.reference.bands, n, work32, energy),
+        },
         start: query_start(fine, window),
     };
     local_candidates(&compared, lower, upper, scores)
@@ -74,9 +76,9 @@ fn local_candidates(
     scores: &mut [f64],
 ) -> MatchResult
     requires { compared.now.reference.frames ≤ length scores.old }
-    ensures { result.items ≡ local_found compared.now.reference (bands_in compared.now.fine) (bands_in compared.now.query) compared.now.start lower upper }
+    ensures { result.items ≡ local_found compared.now.reference (bands_in compared.now.bands.reference) (bands_in compared.now.bands.query) compared.now.start lower upper }
 {
-    let last = compared.reference.frames - compared.query.count;
+    let last = compared.reference.frames - compared.bands.query.count;
     let low = at_least(0.0, ceil(place_of(compared, lower)));
     let high = at_most(real(last), floor(place_of(compared, upper)));
     let mut found = nothing_found();
@@ -88,7 +90,7 @@ fn local_candidates(
 
 // The place of an offset, with its fraction.
 fn place_of(compared: &Comparison<'_>, offset: f64) -> f64
-    ensures { result ≡ place compared.now.reference (bands_in compared.now.fine) (bands_in compared.now.query) compared.now.start offset }
+    ensures { result ≡ place compared.now.reference (bands_in compared.now.bands.reference) (bands_in compared.now.bands.query) compared.now.start offset }
 {
     (compared.start + offset - compared.reference.start_ms) / compared.reference.hop_ms
 }

@@ -18,7 +18,7 @@ use matcher_filling::query::fill_query;
 use matcher_picks::candidates::{insert_by_score, keep_independent, nothing_found};
 use matcher_picks::peaks::{Picked, pick_peaks};
 use matcher_spec::constants::APART_MS;
-use matcher_spec::lent::{Bands, Features, Matcher};
+use matcher_spec::lent::{Bands, Features, Matcher, Paired};
 use matcher_spec::types::MatchResult;
 use numbers::whole::count;
 
@@ -64,8 +64,10 @@ pub fn whole_found(
     let (energy, rest) = work64.split_at_mut(bands * (n + 1));
     let compared = Comparison {
         reference: fine.reference,
-        fine: fine.bands,
-        query: front_bands(bands, n, values, energy),
+        bands: Paired {
+            reference: fine.bands,
+            query: front_bands(bands, n, values, energy),
+        },
         start: query_start(fine, window),
     };
     whole_candidates(&compared, &matcher.coarse, averages, rest)
@@ -83,60 +85,61 @@ fn whole_candidates(
     requires same_bands { coarse.now.bands ≡ compared.now.reference.bands }
     requires some { 0 < coarse.now.bands }
     requires fourth { coarse.now.count ≡ compared.now.reference.frames / 4 }
-    requires averages_room { compared.now.query.bands * (compared.now.query.count / 4) ≤ length averages.old }
-    requires work_room { compared.now.query.bands * (compared.now.query.count / 4 + 1) + compared.now.reference.frames ≤ length work.old }
-    ensures { result.items ≡ whole_found (record { reference = compared.now.reference; fine = bands_in compared.now.fine; coarse = bands_in coarse.now }) (bands_in compared.now.query) compared.now.start }
+    requires averages_room { compared.now.bands.query.bands * (compared.now.bands.query.count / 4) ≤ length averages.old }
+    requires work_room { compared.now.bands.query.bands * (compared.now.bands.query.count / 4 + 1) + compared.now.reference.frames ≤ length work.old }
+    ensures { result.items ≡ whole_found (record { reference = compared.now.reference; fine = bands_in compared.now.bands.reference; coarse = bands_in coarse.now }) (bands_in compared.now.bands.query) compared.now.start }
 {
     let apart = peak_separation(compared.reference.hop_ms);
-    let picked = coarse_peaks(coarse, &compared.query, apart, averages, work);
+    let paired = Paired {
+        reference: *coarse,
+        query: compared.bands.query,
+    };
+    let picked = coarse_peaks(&paired, apart, averages, work);
     let found = candidates_around(compared, &picked, work);
     keep_independent(&found)
 }
 
-// The peaks of the scores of the bands averaged by fours. The query's averages are worked out in
-// `averages`, their energies and the scores behind them in `work`.
+// The peaks of the scores of the bands averaged by fours, which the reference's are already. The
+// query's averages are worked out in `averages`, their energies and the scores behind them in
+// `work`.
 #[tactic(auto, unfolding(matcher_spec::specs::Search::coarse_scores))]
 fn coarse_peaks(
-    coarse: &Bands<'_>,
-    query: &Bands<'_>,
+    paired: &Paired<'_>,
     separation: usize,
     averages: &mut [f32],
     work: &mut [f64],
 ) -> Picked
-    requires same_bands { query.now.bands ≡ coarse.now.bands }
-    requires some { 0 < coarse.now.bands }
-    requires few { coarse.now.bands ≤ bands_most }
-    requires short { coarse.now.count ≤ frames_most }
-    requires within { query.now.count / 4 ≤ coarse.now.count }
-    requires averages_room { query.now.bands * (query.now.count / 4) ≤ length averages.old }
-    requires work_room { query.now.bands * (query.now.count / 4 + 1) + (coarse.now.count + 1) ≤ length work.old }
-    ensures value { result.items ≡ peaks (coarse_scores coarse.now.bands (bands_in coarse.now) (bands_in query.now)) separation }
-    ensures in_bounds { All (λ place. place ≤ coarse.now.count) result.items }
+    requires some { 0 < paired.now.reference.bands }
+    requires few { paired.now.reference.bands ≤ bands_most }
+    requires short { paired.now.reference.count ≤ frames_most }
+    requires within { paired.now.query.count / 4 ≤ paired.now.reference.count }
+    requires averages_room { paired.now.query.bands * (paired.now.query.count / 4) ≤ length averages.old }
+    requires work_room { paired.now.query.bands * (paired.now.query.count / 4 + 1) + (paired.now.reference.count + 1) ≤ length work.old }
+    ensures value { result.items ≡ peaks (coarse_scores paired.now.reference.bands (bands_in paired.now.reference) (bands_in paired.now.query)) separation }
+    ensures in_bounds { All (λ place. place ≤ paired.now.reference.count) result.items }
 {
+    let query = &paired.query;
     let size = query.count / 4;
     let (energy, scores) = work.split_at_mut(query.bands * (size + 1));
     average_query(averages, energy, query);
-    let reduced = front_bands(query.bands, size, averages, energy);
-    all_peaks(coarse, &reduced, separation, scores)
+    let reduced = Paired {
+        reference: paired.reference,
+        query: front_bands(query.bands, size, averages, energy),
+    };
+    all_peaks(&reduced, separation, scores)
 }
 
 // The peaks of the query's scores at all places. They are worked out at the front of `scores`.
-fn all_peaks(
-    reference: &Bands<'_>,
-    query: &Bands<'_>,
-    separation: usize,
-    scores: &mut [f64],
-) -> Picked
-    requires same_bands { query.now.bands ≡ reference.now.bands }
-    requires few { reference.now.bands ≤ bands_most }
-    requires short { reference.now.count ≤ frames_most }
-    requires within { query.now.count ≤ reference.now.count }
-    requires room { reference.now.count + 1 ≤ length scores.old }
-    ensures value { result.items ≡ peaks (correlations reference.now.bands (bands_in reference.now) query.now.count query.now.values.now (whole_energies query.now.bands (bands_in query.now)) 0 (reference.now.count - query.now.count + 1)) separation }
-    ensures in_bounds { All (λ place. place ≤ reference.now.count) result.items }
+fn all_peaks(paired: &Paired<'_>, separation: usize, scores: &mut [f64]) -> Picked
+    requires few { paired.now.reference.bands ≤ bands_most }
+    requires short { paired.now.reference.count ≤ frames_most }
+    requires within { paired.now.query.count ≤ paired.now.reference.count }
+    requires room { paired.now.reference.count + 1 ≤ length scores.old }
+    ensures value { result.items ≡ peaks (correlations paired.now.reference.bands (bands_in paired.now.reference) paired.now.query.count paired.now.query.values.now (whole_energies paired.now.query.bands (bands_in paired.now.query)) 0 (paired.now.reference.count - paired.now.query.count + 1)) separation }
+    ensures in_bounds { All (λ place. place ≤ paired.now.reference.count) result.items }
 {
-    let scores = &mut scores[..reference.count - query.count + 1];
-    score_places(scores, reference, query, 0);
+    let scores = &mut scores[..paired.reference.count - paired.query.count + 1];
+    score_places(scores, paired, 0);
     pick_peaks(scores, separation)
 }
 
@@ -164,9 +167,9 @@ fn peak_separation(hop: f64) -> usize
 fn candidates_around(compared: &Comparison<'_>, picked: &Picked, scores: &mut [f64]) -> MatchResult
     requires in_bounds { All (λ peak. peak ≤ frames_most) picked.now.items }
     requires room { compared.now.reference.frames ≤ length scores.old }
-    ensures { result.items ≡ sorted (candidates_at compared.now.reference (bands_in compared.now.fine) (bands_in compared.now.query) compared.now.start picked.now.items) }
+    ensures { result.items ≡ sorted (candidates_at compared.now.reference (bands_in compared.now.bands.reference) (bands_in compared.now.bands.query) compared.now.start picked.now.items) }
 {
-    let last = compared.reference.frames - compared.query.count;
+    let last = compared.reference.frames - compared.bands.query.count;
     let mut found = nothing_found();
     for peak in picked.iter() {
         let centre = *peak * 4;

@@ -19,6 +19,14 @@ pub struct Bands<'a> {
     ghost holds: { Holds bands count values.now energy.now },
 }
 
+// Bands of a reference, and as many of a query.
+#[derive(Clone, Copy)]
+pub struct Paired<'a> {
+    pub reference: Bands<'a>,
+    pub query: Bands<'a>,
+    ghost same_bands: { query.bands ≡ reference.bands },
+}
+
 // A time for each frame, and values band after band.
 #[derive(Drop)]
 pub struct Features<'a> {
