@@ -29,6 +29,7 @@ const UNFIT: usize = 255;
 const NUMBERS: usize = 40;
 
 // Whether a reference is within document 01's limits.
+// Kept: three numbers, since of a reference that an index is filled with there is no `Reference`.
 #[tactic(auto, unfolding(crate::specs::MatcherCalls::fits_limits))]
 fn fits_limits(bands: usize, frames: usize, hop: f64) -> bool
     ensures value { result ≡ fits_limits bands frames hop }
@@ -38,6 +39,7 @@ fn fits_limits(bands: usize, frames: usize, hop: f64) -> bool
 }
 
 // Whether slices of these lengths hold n values a band, and their energies.
+// Kept: `few`, so that the products do not overflow.
 #[tactic(auto, using(crate::proofs::FitLaws::few), unfolding(crate::specs::MatcherCalls::fits_bands))]
 fn fits_bands(bands: usize, n: usize, values: usize, energy: usize) -> bool
     requires few { bands ≤ bands_most }
@@ -49,6 +51,7 @@ fn fits_bands(bands: usize, n: usize, values: usize, energy: usize) -> bool
 }
 
 // Whether the lengths of a window's slices and of the working buffers are enough.
+// Kept: the lengths alone, here and in the two below, since the working slices are lent `&mut`.
 #[tactic(auto, using(crate::proofs::FitLaws::few), unfolding(crate::specs::MatcherCalls::fits_window))]
 fn fits_window(frames: usize, window: &Features<'_>, work32: usize, work64: usize) -> bool
     requires { frames ≤ frames_most }
@@ -90,6 +93,7 @@ fn fits_fill(
 }
 
 // Fills the index and answers 1, or answers 0 where the reference is rejected.
+// Kept: flat slices and numbers in the three calls, which the C interface lends so.
 #[unsafe(no_mangle)]
 #[tactic(auto, unfolding(crate::specs::MatcherCalls::fill_answer, crate::specs::MatcherCalls::filled_buffers))]
 pub extern "C" fn matcher_fill_index(

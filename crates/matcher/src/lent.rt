@@ -10,6 +10,7 @@ use matcher_spec::lent::{Fine, Index, Matcher};
 use matcher_spec::types::Reference;
 
 // A reference with its bands, which stand at the fronts of two buffers.
+// Kept: `InRange` is asked where a `Fine` is made, and by `fill_query`, which has no bands to hand over.
 pub fn lent_fine<'a>(reference: Reference, values: &'a [f32], energy: &'a [f64]) -> Fine<'a>
     requires in_range { InRange reference }
     requires holds { Holds reference.bands reference.frames values.now energy.now }

@@ -16,6 +16,8 @@ use numbers::whole::{ceil, count, floor};
 // The best place with an offset from `lower` to `upper`, both included, for a caller that makes one
 // search of a window: crates compare_exports and matcher_replay. What the working buffers held does
 // not matter, and what they hold afterwards is free.
+// Kept: window and working slices one by one, since the slices are lent `&mut`: a struct of them has
+// a ghost name for each in every clause, and `WorkRoom` stays a clause.
 pub fn local_search(
     fine: &Fine<'_>,
     window: &Features<'_>,
@@ -68,6 +70,8 @@ pub fn local_found(
 }
 
 // The best place with an offset from `lower` to `upper`. Scores are worked out in `scores`.
+// Kept: room for a score of each frame is a clause here, in `candidates_around` and in
+// `best_candidate`, since the slice is lent `&mut`.
 #[tactic(auto, unfolding(matcher_spec::specs::Search::local_found))]
 fn local_candidates(
     compared: &Comparison<'_>,

@@ -25,6 +25,7 @@ use numbers::whole::count;
 // The candidates of the whole reference, for a caller that makes one search of a window: crates
 // compare_exports and matcher_replay. What the working buffers held does not matter, and what they
 // hold afterwards is free.
+// Kept: window and working slices one by one, as in `local_search`.
 pub fn whole_search(
     matcher: &Matcher<'_>,
     window: &Features<'_>,

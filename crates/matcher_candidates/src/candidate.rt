@@ -17,6 +17,7 @@ use numbers::float::real;
 use numbers::whole::count;
 
 // The best of the places from `low` to `high`. Their scores are worked out at the front of `scores`.
+// Kept: two ends and `low ≤ high`, which a range of places and one of frames share by shape alone.
 #[tactic(auto, unfolding(matcher_spec::specs::Search::candidate_in))]
 pub fn best_candidate(
     compared: &Comparison<'_>,

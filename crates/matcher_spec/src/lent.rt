@@ -20,6 +20,8 @@ pub struct Bands<'a> {
 }
 
 // Bands of a reference, and as many of a query.
+// Kept: how few and how short they are is asked by who works out whole energies, and not by who
+// scores a part.
 #[derive(Clone, Copy)]
 pub struct Paired<'a> {
     pub reference: Bands<'a>,
@@ -28,6 +30,8 @@ pub struct Paired<'a> {
 }
 
 // A time for each frame, and values band after band.
+// Kept: who reads all values asks that they are bands × times; a search by a filled query reads the
+// times alone and asks no such thing.
 #[derive(Drop)]
 pub struct Features<'a> {
     pub bands: usize,
