@@ -12,7 +12,7 @@ use matcher_spec::types::Reference;
 // Fills the query of a window that is searchable, and answers whether it is. The query's values then
 // stand at the front of `work32` and its energies at the front of `work64`; what was there does not
 // matter.
-// Kept: two working slices, since of a struct of `&mut` slices a clause names each by a ghost name.
+// Kept: two working slices, since in a struct each would need a ghost name in the clauses.
 #[tactic(auto, using(matcher_spec::proofs::RadiusLaw::radius_small))]
 pub fn fill_query(
     reference: Reference,
