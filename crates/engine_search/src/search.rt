@@ -7,8 +7,8 @@ ghost use Rattle.engine_spec.specs.Locking.{searched, searched_if};
 ghost use Rattle.engine_spec.specs.Room.{Room};
 ghost use Rattle.engine_lock.specs.Views.{searched_in, tracked_in};
 
-use engine_lock::kinds::{Searched, Tracked};
-use engine_lock::rules::{is_due, locally_searched, whole_searched};
+use engine_lock::kinds::{Searched, Tracked, WholeSearch};
+use engine_lock::rules::{is_due, locally_searched};
 use engine_lock::track::{evidence, followed, may_coast, unsupported};
 use engine_spec::lent::Window;
 use engine_spec::thresholds::LOCAL_MS;
@@ -160,15 +160,15 @@ fn then_whole(
         work32,
         work64,
     );
-    whole_searched(
-        settings.hop_ms,
-        evidence(settings.hop_ms, endpoint),
+    let search = WholeSearch {
+        evidence: evidence(settings.hop_ms, endpoint),
         endpoint,
         reached,
-        lock.pending,
-        t,
+        pending: lock.pending,
+        tracked: t,
         found,
-    )
+    };
+    search.judged(settings.hop_ms)
 }
 
 // The time of its last frame.
