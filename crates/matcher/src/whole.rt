@@ -3,12 +3,12 @@ ghost use Rattle.std.specs.Prelude.{◌+◌, ◌-◌, ◌*◌, ◌<◌, ◌/◌,
 ghost use Rattle.std.specs.List.{All};
 ghost use Rattle.matcher_spec.specs.Candidates.{sorted};
 ghost use Rattle.matcher_spec.specs.Energy.{Holds, reduced, whole_energies};
-ghost use Rattle.matcher_spec.specs.Index.{lent_bands, lent_matcher};
+ghost use Rattle.matcher_spec.specs.Index.{lent_bands};
 ghost use Rattle.matcher_spec.specs.Lent.{bands_in};
 ghost use Rattle.matcher_spec.specs.Limits.{bands_most, frames_most};
 ghost use Rattle.matcher_spec.specs.Peaks.{peaks};
 ghost use Rattle.matcher_spec.specs.Scores.{correlations};
-ghost use Rattle.matcher_spec.specs.Search.{FilledQuery, InRange, QueryFits, WorkRoom, candidates_at, coarse_scores, separation, whole_found, whole_search};
+ghost use Rattle.matcher_spec.specs.Search.{FilledQuery, WorkRoom, candidates_at, coarse_scores, separation, whole_found, whole_search};
 
 use crate::fronts::{front_bands, query_frames, query_start};
 use matcher_bands::energy::{fill_energies, reduce_bands};
@@ -18,29 +18,25 @@ use matcher_filling::query::fill_query;
 use matcher_picks::candidates::{insert_by_score, keep_independent, nothing_found};
 use matcher_picks::peaks::{Picked, pick_peaks};
 use matcher_spec::constants::APART_MS;
-use matcher_spec::lent::{Bands, Features, Index};
-use matcher_spec::types::{MatchResult, Reference};
+use matcher_spec::lent::{Bands, Features, Matcher};
+use matcher_spec::types::MatchResult;
 use numbers::whole::count;
 
 // The candidates of the whole reference, for a caller that makes one search of a window: crates
-// compare_exports and matcher_replay. The buffers hold the index at their fronts. What the working
-// buffers held does not matter, and what they hold afterwards is free.
+// compare_exports and matcher_replay. What the working buffers held does not matter, and what they
+// hold afterwards is free.
 pub fn whole_search(
-    index: &Index<'_>,
-    reference: Reference,
+    matcher: &Matcher<'_>,
     window: &Features<'_>,
     work32: &mut [f32],
     work64: &mut [f64],
 ) -> MatchResult
-    requires in_range { InRange reference }
-    requires holds { Holds reference.bands reference.frames index.now.fine index.now.fine_energy }
-    requires holds_2 { Holds reference.bands (reference.frames / 4) index.now.coarse index.now.coarse_energy }
     requires values_len_1 { length window.now.values ≡ window.now.bands * length window.now.times }
-    requires values_len_2 { WorkRoom reference window.now.bands (length window.now.times) work32.old work64.old }
-    ensures value { result.items ≡ whole_search (lent_matcher reference index.now) window.now }
+    requires values_len_2 { WorkRoom matcher.now.reference window.now.bands (length window.now.times) work32.old work64.old }
+    ensures value { result.items ≡ whole_search matcher.now window.now }
 {
-    let filled = fill_query(reference, window, work32, work64);
-    whole_found(filled, index, reference, window, work32, work64)
+    let filled = fill_query(matcher.fine.reference, window, work32, work64);
+    whole_found(filled, matcher, window, work32, work64)
 }
 
 // The candidates of the whole reference, by the query that `fill_query` filled for the window: none
@@ -49,43 +45,30 @@ pub fn whole_search(
 #[tactic(auto, unfolding(matcher_spec::specs::Search::whole_search))]
 pub fn whole_found(
     filled: bool,
-    index: &Index<'_>,
-    reference: Reference,
+    matcher: &Matcher<'_>,
     window: &Features<'_>,
     work32: &mut [f32],
     work64: &mut [f64],
 ) -> MatchResult
-    requires in_range { InRange reference }
-    requires holds { Holds reference.bands reference.frames index.now.fine index.now.fine_energy }
-    requires holds_2 { Holds reference.bands (reference.frames / 4) index.now.coarse index.now.coarse_energy }
-    requires work_room { WorkRoom reference window.now.bands (length window.now.times) work32.old work64.old }
-    requires filled_query { FilledQuery reference window.now filled work32.old work64.old }
-    ensures value { result.items ≡ whole_search (lent_matcher reference index.now) window.now }
+    requires work_room { WorkRoom matcher.now.reference window.now.bands (length window.now.times) work32.old work64.old }
+    requires filled_query { FilledQuery matcher.now.reference window.now filled work32.old work64.old }
+    ensures value { result.items ≡ whole_search matcher.now window.now }
 {
     if !filled {
         return nothing_found();
     }
-    let n = query_frames(reference, window);
-    let (values, averages) = work32.split_at_mut(reference.bands * n);
-    let (energy, rest) = work64.split_at_mut(reference.bands * (n + 1));
+    let fine = &matcher.fine;
+    let bands = fine.reference.bands;
+    let n = query_frames(fine, window);
+    let (values, averages) = work32.split_at_mut(bands * n);
+    let (energy, rest) = work64.split_at_mut(bands * (n + 1));
     let compared = Comparison {
-        reference,
-        fine: front_bands(
-            reference.bands,
-            reference.frames,
-            index.fine,
-            index.fine_energy,
-        ),
-        query: front_bands(reference.bands, n, values, energy),
-        start: query_start(reference, window),
+        reference: fine.reference,
+        fine: fine.bands,
+        query: front_bands(bands, n, values, energy),
+        start: query_start(fine, window),
     };
-    let coarse = front_bands(
-        reference.bands,
-        reference.frames / 4,
-        index.coarse,
-        index.coarse_energy,
-    );
-    whole_candidates(&compared, &coarse, averages, rest)
+    whole_candidates(&compared, &matcher.coarse, averages, rest)
 }
 
 // The candidates of the whole reference. The query's averages by fours are worked out in

@@ -1,8 +1,11 @@
 // What a search is lent, each with the record of the definitions that it stands for.
+ghost use Rattle.std.specs.Prelude.{◌≡◌};
 ghost use Rattle.matcher_spec.specs.Energy.{Holds};
 ghost use Rattle.matcher_spec.specs.Features.{Features, features};
 ghost use Rattle.matcher_spec.specs.Index.{Index, lent};
+ghost use Rattle.matcher_spec.specs.Search.{InRange};
 
+use crate::types::Reference;
 use std::marker::Model;
 
 // Bands band after band: `count` values each, and the energies of each, one more than it has values.
@@ -43,4 +46,35 @@ impl<'a> Model for Index<'a> {
     ghost Value = { Index };
 
     ghost view = { λ x. lent x.fine.now x.coarse.now x.fine_energy.now x.coarse_energy.now };
+}
+
+// A reference within the limits and its bands as they are: the fine half of an index, which is all
+// that a local search reads.
+#[derive(Clone, Copy)]
+pub struct Fine<'a> {
+    pub reference: Reference,
+    pub bands: Bands<'a>,
+    ghost in_range: { InRange reference },
+    ghost same_bands: { bands.bands ≡ reference.bands },
+    ghost same_frames: { bands.count ≡ reference.frames },
+}
+
+// The matcher that an index holds: its fine half, and the bands averaged by fours.
+#[derive(Drop)]
+pub struct Matcher<'a> {
+    pub fine: Fine<'a>,
+    pub coarse: Bands<'a>,
+}
+
+impl<'a> Model for Matcher<'a> {
+    ghost use Rattle.std.specs.Prelude.{◌/◌, ◌≡◌};
+    ghost use Rattle.matcher_spec.specs.Energy.{reduction};
+    ghost use Rattle.matcher_spec.specs.Index.{Matcher};
+    ghost use Rattle.matcher_spec.specs.Lent.{bands_in};
+
+    ghost Value = { Matcher };
+
+    ghost view = { λ m. record { reference = m.fine.reference; fine = bands_in m.fine.bands; coarse = bands_in m.coarse } };
+
+    ghost invariant = { λ m. (m.coarse.bands ≡ m.fine.reference.bands) × (m.coarse.count ≡ m.fine.reference.frames / reduction) };
 }
