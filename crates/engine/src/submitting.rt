@@ -21,6 +21,8 @@ use matcher_spec::lent::Index;
 // `open` gave; the index is as `open` filled it. A refusal writes nothing. What the working slices
 // held does not matter, and what they hold then is free. That the values are f32 is said for whoever
 // applies `open`'s guarantee to a list of calls.
+// Kept: a struct of index, window and clock would be `Submission` once more, less the lengths of the
+// working slices.
 #[tactic(auto, unfolding(engine_spec::specs::Submitting::submit))]
 pub fn submit(
     engine: Engine,

@@ -7,9 +7,9 @@ use matcher_spec::lent::Index;
 use std::marker::Model;
 
 // A time and an energy for each frame, and values band after band.
-// Kept: what a window has that is not refused (a frame, an energy for each, all the values) is asked
-// where it is needed: as facts of this type or of another it would ask more of callers of public
-// functions that ask for one of the three.
+// Kept: what a window or a reference has that is not refused (a frame, an energy for each, few bands)
+// is asked where it is needed: a type with all of it would ask more of callers of public functions
+// that ask for a part.
 #[derive(Drop)]
 pub struct Window<'a> {
     pub bands: usize,
@@ -24,7 +24,8 @@ impl<'a> Model for Window<'a> {
     ghost view = { λ w. window w.bands w.times.now w.energies.now w.values.now };
 }
 
-// What is handed in beside the engine; the working slices, which are lent `&mut`, by their lengths.
+// What is handed in beside the engine. The working slices are lent `&mut`, and stand here by their
+// lengths.
 #[derive(Drop)]
 pub struct Submission<'a> {
     pub index: &'a Index<'a>,
