@@ -12,6 +12,7 @@ use matcher_spec::lent::Index;
 
 // Answers a window, or refuses it by number, as `submit` does, and leaves the next engine in the
 // lent one; a refusal leaves the lent engine and both working slices as they were.
+// Kept: the parameters are those of `submit`.
 #[tactic(auto, unfolding(engine_spec::specs::Submitting::submit))]
 pub fn process(
     engine: &mut Engine,

@@ -9,10 +9,11 @@ ghost use Rattle.engine_spec.specs.Room.{Room};
 use engine_answers::answers::{computed_from, reread};
 use engine_answers::milestones::reached_by;
 use engine_decision::decide::decide;
+use engine_decision::kinds::Seen;
 use engine_decision::windows::{endpoint_of, is_reread, lock_from};
 use engine_opening::opening::are_f32;
 use engine_refusals::handed::check_submission;
-use engine_spec::lent::Window;
+use engine_spec::lent::{Submission, Window};
 use engine_spec::types::{ClockMs, Engine, Refusal, Submitted};
 use matcher_spec::lent::Index;
 
@@ -20,6 +21,8 @@ use matcher_spec::lent::Index;
 // `open` gave; the index is as `open` filled it. A refusal writes nothing. What the working slices
 // held does not matter, and what they hold then is free. That the values are f32 is said for whoever
 // applies `open`'s guarantee to a list of calls.
+// Kept: a struct of index, window and clock would be `Submission` once more, less the lengths of the
+// working slices.
 #[tactic(auto, unfolding(engine_spec::specs::Submitting::submit))]
 pub fn submit(
     engine: Engine,
@@ -35,36 +38,38 @@ pub fn submit(
     ensures held { Every F32 window.now.values }
 {
     are_f32(window.values);
-    check_submission(engine, index, window, clock, work32.len(), work64.len())?;
-    Ok(answered(engine, index, window, clock, work32, work64))
+    let submission = Submission {
+        index,
+        window,
+        clock,
+        room32: work32.len(),
+        room64: work64.len(),
+    };
+    check_submission(engine, &submission)?;
+    Ok(answered(engine, &submission, work32, work64))
 }
 
 // A submission that is not refused: the last snapshot again, or a computed one.
 #[tactic(auto, unfolding(engine_spec::specs::Submitting::answered_from, engine_spec::specs::Submitting::decision_on))]
 fn answered(
     engine: Engine,
-    index: &Index<'_>,
-    window: &Window<'_>,
-    clock: ClockMs,
+    submission: &Submission<'_>,
     work32: &mut [f32],
     work64: &mut [f64],
 ) -> Submitted
-    requires { Room engine.settings index.now window.now (length work32.old) (length work64.old) }
-    ensures { Ok result ≡ submitted (answered_from engine (handed index.now window.now clock (length work32.old) (length work64.old))) }
+    requires { Room engine.settings submission.now.index submission.now.window (length work32.old) (length work64.old) }
+    ensures { Ok result ≡ submitted (answered_from engine submission.now) }
 {
+    let window = submission.window;
     if is_reread(engine.settings, engine.last, window) {
         return reread(engine, endpoint_of(window));
     }
-    let d = decide(
-        true,
-        engine.configuration,
-        engine.settings,
-        index,
-        window,
-        reached_by(engine.milestones),
-        lock_from(engine, window),
-        work32,
-        work64,
-    );
-    computed_from(engine, window, clock, &d)
+    let seen = Seen {
+        configuration: engine.configuration,
+        settings: engine.settings,
+        reached: reached_by(engine.milestones),
+        lock: lock_from(engine, window),
+    };
+    let d = decide(true, &seen, submission.index, window, work32, work64);
+    computed_from(engine, window, submission.clock, &d)
 }

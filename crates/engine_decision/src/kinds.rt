@@ -1,7 +1,17 @@
-// All that a window decides.
-use engine_spec::types::{Lock, Reached, Verdict};
+// What a decision on a window sees of an engine, and what it decides.
+use engine_spec::types::{Configuration, Lock, Reached, Settings, Verdict};
 use matcher_spec::types::MatchResult;
 
+// Which milestones are there is known, and no clock reading: nothing that the clock tells steers.
+#[derive(Clone, Copy)]
+pub struct Seen {
+    pub configuration: Configuration,
+    pub settings: Settings,
+    pub reached: Reached,
+    pub lock: Lock,
+}
+
+// All that a window decides.
 #[derive(Drop)]
 pub struct Decision {
     pub lock: Lock,

@@ -5,18 +5,11 @@ ghost use Rattle.engine_spec.specs.Windows.{endpoint_of, indexed, jumps_from, re
 ghost use Rattle.engine_spec.specs.Submitting.{lock_from};
 ghost use Rattle.engine_spec.specs.Opening.{no_lock};
 
+pub use engine_search::search::endpoint_of;
 use engine_spec::lent::Window;
 use engine_spec::thresholds::REREAD_MS;
 use engine_spec::types::{Engine, Last, Lock, RecordedMs, Settings};
 use matcher_bands::timeline::accepts_timeline;
-
-// The time of its last frame.
-pub fn endpoint_of(window: &Window<'_>) -> RecordedMs
-    requires { 0 < length window.now.times }
-    ensures { result ≡ endpoint_of window.now }
-{
-    RecordedMs(window.times[window.times.len() - 1])
-}
 
 // Whether the window is a re-reading.
 pub fn is_reread(settings: Settings, last: Last, window: &Window<'_>) -> bool

@@ -1,5 +1,5 @@
 // What the lock rules hand on.
-use engine_spec::types::{Hypothesis, Lock, Reached};
+use engine_spec::types::{Hypothesis, Lock, Reached, RecordedMs};
 use matcher_spec::types::MatchResult;
 
 #[derive(Drop)]
@@ -7,6 +7,18 @@ pub struct Tracked {
     pub accepted: Option<Hypothesis>,
     pub supported: bool,
     pub innovation: Option<f64>,
+    pub found: MatchResult,
+}
+
+// What a whole search leaves to be judged: the window's evidence time and endpoint, which milestones
+// are there, pending and the track before it, and what it found.
+#[derive(Drop)]
+pub struct WholeSearch {
+    pub evidence: RecordedMs,
+    pub endpoint: RecordedMs,
+    pub reached: Reached,
+    pub pending: Option<Hypothesis>,
+    pub tracked: Tracked,
     pub found: MatchResult,
 }
 

@@ -6,7 +6,7 @@ ghost use Rattle.engine_spec.specs.Windows.{current};
 ghost use Rattle.numbers_spec.specs.Arithmetic.{least};
 ghost use Rattle.engine_lock.specs.Views.{searched_in, tracked_in};
 
-use crate::kinds::{Searched, Tracked};
+use crate::kinds::{Searched, Tracked, WholeSearch};
 use crate::track::is_same_place;
 use engine_spec::thresholds::{
     CHAIN_MS, CHAIN_RECENT, PASSING_CORRELATION, PASSING_HALF, PASSING_MARGIN, SAME_PLACE_MS,
@@ -14,7 +14,7 @@ use engine_spec::thresholds::{
 };
 use engine_spec::types::{Hypothesis, Lock, Reached, RecordedMs};
 use matcher_picks::candidates::margin;
-use matcher_spec::types::{Candidate, MatchResult};
+use matcher_spec::types::Candidate;
 use numbers::float::{abs, at_most};
 
 // Due 500 after the last whole search, or 2,000 where the window supports the track.
@@ -153,102 +153,81 @@ fn after_chain(k: Reached) -> Reached
     }
 }
 
-// What a whole search leaves that passed, of a window with this evidence time and endpoint. `first` is
-// the first evidence of pending.
-#[tactic(auto, unfolding(engine_spec::specs::Locking::passed))]
-fn passed(
-    hop: f64,
-    now: RecordedMs,
-    endpoint: RecordedMs,
-    reached: Reached,
-    first: RecordedMs,
-    t: Tracked,
-    best: Candidate,
-    found: MatchResult,
-) -> Searched
-    requires { found.items ≡ best ∷ drop 1 found.items }
-    ensures result_value { searched_in result ≡ passed hop now endpoint reached first (tracked_in t) best (drop 1 found.items) }
-    ensures found_value { result.found ≡ found }
-{
-    let ends = confirms(hop, first, now, best);
-    let pending = Some(Hypothesis {
-        offset_ms: best.offset_ms,
-        first_evidence_ms: first,
-        last_evidence_ms: now,
-        correlation: best.score,
-    });
-    let accepted = if ends {
-        kept_or_replaced(t.accepted, t.supported, best, now)
-    } else {
-        t.accepted
-    };
-    Searched {
-        lock: Lock {
-            pending,
-            accepted,
-            last_global_search_ms: endpoint,
-        },
-        reached: if ends {
-            after_chain(reached)
+impl WholeSearch {
+    // What the window leaves by it.
+    #[tactic(auto, unfolding(engine_spec::specs::Locking::whole_searched))]
+    pub fn judged(self, hop: f64) -> Searched
+        ensures result_value { searched_in result ≡ whole_searched hop self.evidence self.endpoint self.reached self.pending (tracked_in self.tracked) self.found.items }
+        ensures found_value { result.found ≡ self.found }
+    {
+        let best = match self.found.as_slice() {
+            [best, ..] => *best,
+            [] => return self.not_passed(),
+        };
+        if !is_passing(&self.found) {
+            return self.not_passed();
+        }
+        self.passed(hop, best)
+    }
+
+    // Where it passed with this best.
+    #[tactic(auto, unfolding(engine_spec::specs::Locking::passed))]
+    fn passed(self, hop: f64, best: Candidate) -> Searched
+        requires { self.found.items ≡ best ∷ drop 1 self.found.items }
+        ensures result_value { searched_in result ≡ passed hop self.evidence self.endpoint self.reached (first_evidence self.pending best.offset_ms self.evidence) (tracked_in self.tracked) best (drop 1 self.found.items) }
+        ensures found_value { result.found ≡ self.found }
+    {
+        let now = self.evidence;
+        let t = self.tracked;
+        let first = first_evidence(self.pending, best.offset_ms, now);
+        let ends = confirms(hop, first, now, best);
+        let pending = Some(Hypothesis {
+            offset_ms: best.offset_ms,
+            first_evidence_ms: first,
+            last_evidence_ms: now,
+            correlation: best.score,
+        });
+        let accepted = if ends {
+            kept_or_replaced(t.accepted, t.supported, best, now)
         } else {
-            after_passing(reached)
-        },
-        global: true,
-        found,
-        supported: ends | t.supported,
-        innovation: t.innovation,
+            t.accepted
+        };
+        Searched {
+            lock: Lock {
+                pending,
+                accepted,
+                last_global_search_ms: self.endpoint,
+            },
+            reached: if ends {
+                after_chain(self.reached)
+            } else {
+                after_passing(self.reached)
+            },
+            global: true,
+            found: self.found,
+            supported: ends | t.supported,
+            innovation: t.innovation,
+        }
     }
-}
 
-// What one leaves that did not pass.
-fn not_passed(
-    now: RecordedMs,
-    endpoint: RecordedMs,
-    reached: Reached,
-    pending: Option<Hypothesis>,
-    t: Tracked,
-    found: MatchResult,
-) -> Searched
-    ensures result_value { searched_in result ≡ not_passed now endpoint reached pending (tracked_in t) found.items }
-    ensures found_value { result.found ≡ found }
-{
-    Searched {
-        lock: Lock {
-            pending: held_or_dropped(pending, &found, now),
-            accepted: t.accepted,
-            last_global_search_ms: endpoint,
-        },
-        reached,
-        global: true,
-        found,
-        supported: t.supported,
-        innovation: t.innovation,
+    // Where it did not pass.
+    fn not_passed(self) -> Searched
+        ensures result_value { searched_in result ≡ not_passed self.evidence self.endpoint self.reached self.pending (tracked_in self.tracked) self.found.items }
+        ensures found_value { result.found ≡ self.found }
+    {
+        Searched {
+            lock: Lock {
+                pending: held_or_dropped(self.pending, &self.found, self.evidence),
+                accepted: self.tracked.accepted,
+                last_global_search_ms: self.endpoint,
+            },
+            reached: self.reached,
+            global: true,
+            found: self.found,
+            supported: self.tracked.supported,
+            innovation: self.tracked.innovation,
+        }
     }
-}
-
-// What a whole search leaves that found these.
-#[tactic(auto, unfolding(engine_spec::specs::Locking::whole_searched))]
-pub fn whole_searched(
-    hop: f64,
-    now: RecordedMs,
-    endpoint: RecordedMs,
-    reached: Reached,
-    pending: Option<Hypothesis>,
-    t: Tracked,
-    found: MatchResult,
-) -> Searched
-    ensures result_value { searched_in result ≡ whole_searched hop now endpoint reached pending (tracked_in t) found.items }
-    ensures found_value { result.found ≡ found }
-{
-    let best = match found.as_slice() {
-        [best, ..] => *best,
-        [] => return not_passed(now, endpoint, reached, pending, t, found),
-    };
-    if !is_passing(&found) {
-        return not_passed(now, endpoint, reached, pending, t, found);
-    }
-    let first = first_evidence(pending, best.offset_ms, now);
-    passed(hop, now, endpoint, reached, first, t, best, found)
 }
 
 // Without a whole search pending and the search time stay.

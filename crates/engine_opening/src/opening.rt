@@ -17,6 +17,7 @@ use matcher_spec::lent::{Features, Index};
 // band after band. A reference that the matcher rejects opens an engine without index, and nothing
 // is written either; else the four slices hold its index, and what lay behind it stays. All that is
 // promised of submissions to what was opened is `Guaranteed`.
+// Kept: the four buffers of the index are filled here, so they are lent `&mut`, each by itself.
 #[tactic(auto, unfolding(engine_spec::specs::Opening::opening))]
 pub fn open(
     configuration: Configuration,

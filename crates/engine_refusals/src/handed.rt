@@ -2,12 +2,11 @@
 ghost use Rattle.std.specs.Prelude.{◌^◌, ◌<◌, ◌≤◌, length, ◌≡◌};
 ghost use Rattle.std.specs.Result.{result_err};
 ghost use Rattle.engine_spec.specs.Refusals.{handed_refusal, index_fits, lent_refusal, opening_refusal, submission_refusal, valid_window, window_refusal, work_fits};
-ghost use Rattle.engine_spec.specs.Lent.{handed};
 ghost use Rattle.matcher_spec.specs.Limits.{window_most, bands_most};
 
 use crate::ranges::{are_near, are_near_or_not_finite, are_valid_energies, is_hop};
 use crate::states::{are_counts, is_valid_configuration, is_valid_engine};
-use engine_spec::lent::Window;
+use engine_spec::lent::{Submission, Window};
 use engine_spec::types::{ClockMs, Configuration, Engine, Refusal, Settings};
 use matcher_bands::timeline::are_valid;
 use matcher_spec::lent::{Features, Index};
@@ -112,6 +111,7 @@ pub fn check_window(window: &Window<'_>) -> Result<(), Refusal>
 }
 
 // 13: by the window's bands and frames and the state's frames, a `u16`.
+// Kept: the three numbers by which the C names of sizes, too, say how long the slices have to be.
 #[tactic(auto, unfolding(engine_spec::specs::Refusals::work_fits), using(crate::proofs::Products::few))]
 fn work_fits(
     bands: usize,
@@ -130,20 +130,19 @@ fn work_fits(
 
 // 6 and 8 to 13: what may be refused of a submission to a state with these settings.
 #[tactic(auto, unfolding(engine_spec::specs::Refusals::handed_refusal))]
-fn check_handed(
-    settings: Settings,
-    index: &Index<'_>,
-    window: &Window<'_>,
-    clock: ClockMs,
-    room32: usize,
-    room64: usize,
-) -> Result<(), Refusal>
-    ensures { result_err result ≡ handed_refusal settings (handed index.now window.now clock room32 room64) }
+fn check_handed(settings: Settings, submission: &Submission<'_>) -> Result<(), Refusal>
+    ensures { result_err result ≡ handed_refusal settings submission.now }
 {
-    check_lent(settings, index, clock)?;
+    let window = submission.window;
+    check_lent(settings, submission.index, submission.clock)?;
     check_window(window)?;
-    let frames = settings.reference_frames as usize;
-    if !work_fits(window.bands, window.times.len(), frames, room32, room64) {
+    if !work_fits(
+        window.bands,
+        window.times.len(),
+        settings.reference_frames as usize,
+        submission.room32,
+        submission.room64,
+    ) {
         return Err(Refusal::WorkTooShort);
     }
     Ok(())
@@ -151,18 +150,11 @@ fn check_handed(
 
 // 7 first: what the state holds.
 #[tactic(auto, unfolding(engine_spec::specs::Refusals::submission_refusal))]
-pub fn check_submission(
-    engine: Engine,
-    index: &Index<'_>,
-    window: &Window<'_>,
-    clock: ClockMs,
-    room32: usize,
-    room64: usize,
-) -> Result<(), Refusal>
-    ensures { result_err result ≡ submission_refusal engine (handed index.now window.now clock room32 room64) }
+pub fn check_submission(engine: Engine, submission: &Submission<'_>) -> Result<(), Refusal>
+    ensures { result_err result ≡ submission_refusal engine submission.now }
 {
     if !is_valid_engine(engine) {
         return Err(Refusal::StateOutOfRange);
     }
-    check_handed(engine.settings, index, window, clock, room32, room64)
+    check_handed(engine.settings, submission)
 }
