@@ -2,10 +2,10 @@
 ghost use Rattle.std.specs.Prelude.{◌≤◌, OnOk, ◌≡◌, length};
 ghost use Rattle.std.specs.Result.{result_err};
 ghost use Rattle.engine_spec.specs.declared.types.Engine.{Engine};
-ghost use Rattle.engine_layout.specs.Layout.{state_words};
 ghost use Rattle.engine_layout.specs.Written.{ReadsBack};
 ghost use Rattle.places_spec.specs.Places.{is_kept, is_name, keep_refusal, kept, place_in, place_start, places_most, restored, restored_or_refused, store_words};
 
+use engine_layout::rows::part;
 use engine_spec::types::{Engine, Refusal};
 use engine_words::snapshots::LAYOUT;
 use engine_words::states::{STATE_WORDS, read_state, write_state};
@@ -70,20 +70,17 @@ fn place_start(name: usize) -> usize
     (name - 1) * STATE_WORDS
 }
 
-fn place_of(name: usize, store: &[u64]) -> &[u64]
+fn place_of(name: usize, store: &[u64]) -> &[u64; STATE_WORDS]
     requires least { 1 ≤ name }
     requires most { name ≤ places_most }
     requires long { store_words ≤ length store.now }
-    ensures value { result.now ≡ place_in name store.now }
-    ensures whole { length result.now ≡ state_words }
+    ensures { result.now ≡ place_in name store.now }
 {
-    let at = place_start(name);
-    &store[at..at + STATE_WORDS]
+    part(store, place_start(name))
 }
 
 // Zeros keep nothing, nor do words of another layout.
-fn is_kept(place: &[u64]) -> bool
-    requires { length place.now ≡ state_words }
+fn is_kept(place: &[u64; STATE_WORDS]) -> bool
     ensures { result ≡ is_kept place.now }
 {
     place[0] == LAYOUT

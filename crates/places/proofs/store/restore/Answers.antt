@@ -9,8 +9,8 @@ returns-in_err-check_keep c running =
 
 pub returns-then-not-is_kept : goal.returns-then-not-is_kept
 returns-then-not-is_kept c running =
-    empty running c.args.name c.args.store.now c.in_ok-check_keep.ensures.value c.place_of-place.ensures.value c.if-not-is_kept.ensures
+    empty running c.args.name c.args.store.now c.in_ok-check_keep.ensures.value c.place_of-place.ensures c.if-not-is_kept.ensures
 
 pub returns : goal.returns
 returns c running =
-    given running c.args.name c.args.store.now c.in_ok-check_keep.ensures.value c.place_of-place.ensures.value c.read_state.ensures c.if-not-is_kept.ensures
+    given running c.args.name c.args.store.now c.in_ok-check_keep.ensures.value c.place_of-place.ensures c.read_state.ensures c.if-not-is_kept.ensures
