@@ -16,6 +16,7 @@ pub const PLACES_MOST: usize = 8;
 pub const STORE_WORDS: usize = 848;
 
 // Keeps the engine under the name. The store's other words stay; a refusal writes nothing.
+#[tactic(auto, using(crate::proofs::StoreLaws::left_alone, crate::proofs::StoreLaws::put_back))]
 pub fn keep(engine: Engine, name: usize, store: &mut [u64]) -> Result<(), Refusal>
     ensures value { result_err result ≡ keep_refusal name (length store.old) }
     ensures words { store.new ≡ kept engine name store.old }
@@ -28,6 +29,7 @@ pub fn keep(engine: Engine, name: usize, store: &mut [u64]) -> Result<(), Refusa
 }
 
 // Gives back what is kept under the name, whatever engine runs.
+#[tactic(auto, using(crate::proofs::StoreLaws::empty, crate::proofs::StoreLaws::given))]
 pub fn restore(name: usize, store: &[u64]) -> Result<Engine, Refusal>
     ensures { (running : Engine) → result ≡ restored_or_refused (restored running name store.now) }
 {
