@@ -4,12 +4,13 @@ ghost use Rattle.engine_layout.specs.Layout.{candidate_of, candidates_of};
 ghost use Rattle.engine_layout.specs.Written.{candidate_words, candidates_to, placed};
 ghost use Rattle.matcher_spec.specs.Limits.{candidates_most};
 
-use crate::rows::put;
+use crate::rows::{part, put};
 use crate::word::Word;
 use engine_spec::types::CandidateDiagnostics;
 use matcher_spec::limits::CANDIDATES_MOST;
 use std::array;
 
+// Kept: five numbers by name, as in engine_words' `configuration_words`; what both share is `to_word`.
 #[tactic(auto, unfolding(crate::specs::Layout::candidate_of, crate::specs::Written::candidate_words))]
 pub fn candidate_words(c: CandidateDiagnostics) -> [u64; 5]
     ensures value { result ≡ candidate_words c }
@@ -25,8 +26,7 @@ pub fn candidate_words(c: CandidateDiagnostics) -> [u64; 5]
 }
 
 #[tactic(auto, unfolding(crate::specs::Layout::candidate_of))]
-pub fn candidate_of(words: &[u64]) -> CandidateDiagnostics
-    requires { length words.now ≡ 5 }
+pub fn candidate_of(words: &[u64; 5]) -> CandidateDiagnostics
     ensures { result ≡ candidate_of words.now }
 {
     CandidateDiagnostics {
@@ -54,9 +54,8 @@ pub fn put_candidates(
 }
 
 #[tactic(auto, unfolding(crate::specs::Layout::candidates_of))]
-pub fn candidates_of(words: &[u64]) -> [CandidateDiagnostics; CANDIDATES_MOST]
-    requires { length words.now ≡ 40 }
+pub fn candidates_of(words: &[u64; 40]) -> [CandidateDiagnostics; CANDIDATES_MOST]
     ensures { result ≡ candidates_of words.now }
 {
-    array::from_fn(|i| candidate_of(&words[5 * i..5 * i + 5]))
+    array::from_fn(|i| candidate_of(part(words, 5 * i)))
 }

@@ -52,8 +52,7 @@ pub fn estimate_words(e: Option<Estimate>) -> [u64; 4]
 }
 
 #[tactic(auto, unfolding(crate::specs::Layout::estimate_of))]
-pub fn estimate_of(words: &[u64]) -> Option<Estimate>
-    requires { length words.now ≡ 4 }
+pub fn estimate_of(words: &[u64; 4]) -> Option<Estimate>
     ensures { result ≡ estimate_of words.now }
 {
     if words[0] != 1 {
@@ -84,8 +83,7 @@ pub fn hypothesis_words(h: Option<Hypothesis>) -> [u64; 5]
 }
 
 #[tactic(auto, unfolding(crate::specs::Layout::hypothesis_of))]
-pub fn hypothesis_of(words: &[u64]) -> Option<Hypothesis>
-    requires { length words.now ≡ 5 }
+pub fn hypothesis_of(words: &[u64; 5]) -> Option<Hypothesis>
     ensures { result ≡ hypothesis_of words.now }
 {
     if words[0] != 1 {

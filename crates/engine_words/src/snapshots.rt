@@ -6,7 +6,7 @@ ghost use Rattle.engine_layout.specs.Written.{diagnostics_numbers, diagnostics_w
 
 use engine_layout::candidates::{candidates_of, put_candidates};
 use engine_layout::options::{estimate_of, estimate_words, option_of, tag, word_or_zero};
-use engine_layout::rows::put;
+use engine_layout::rows::{part, put};
 use engine_layout::word::Word;
 use engine_spec::types::{
     CandidateDiagnostics, Diagnostics, LockPhase, Milestones, Snapshot, SpectralDiagnostics, Stage,
@@ -32,7 +32,7 @@ pub fn read_snapshot(words: &[u64]) -> Snapshot
     requires { 77 ≤ length words.now }
     ensures { result ≡ snapshot_in words.now }
 {
-    snapshot_of(&words[1..77])
+    snapshot_of(part(words, 1))
 }
 
 pub fn put_snapshot(words: &mut [u64], at: usize, s: Snapshot)
@@ -53,19 +53,18 @@ pub fn put_snapshot(words: &mut [u64], at: usize, s: Snapshot)
 }
 
 #[tactic(auto, unfolding(engine_layout::specs::Layout::snapshot_of))]
-pub fn snapshot_of(words: &[u64]) -> Snapshot
-    requires { length words.now ≡ 76 }
+pub fn snapshot_of(words: &[u64; 76]) -> Snapshot
     ensures { result ≡ snapshot_of words.now }
 {
-    let milestones = milestones_of(&words[70..76]);
+    let milestones = milestones_of(part(words, 70));
     Snapshot {
         state: State::from_word(words[0]),
         phase: LockPhase::from_word(words[1]),
         stage: Stage::from_word(words[2]),
-        estimate: estimate_of(&words[3..7]),
+        estimate: estimate_of(part(words, 3)),
         withhold_reason: Word::from_word(words[7]),
         confidence: f64::from_word(words[8]),
-        diagnostics: diagnostics_of(&words[9..70]),
+        diagnostics: diagnostics_of(part(words, 9)),
         first_provisional_lock_elapsed_ms: milestones.first_provisional_ms,
         confirmed_lock_elapsed_ms: milestones.confirmed_ms,
         final_lock_elapsed_ms: milestones.final_ms,
@@ -99,8 +98,7 @@ pub fn milestones_words(m: Milestones) -> [u64; 6]
 }
 
 #[tactic(auto, unfolding(engine_layout::specs::Layout::milestones_of))]
-pub fn milestones_of(words: &[u64]) -> Milestones
-    requires { length words.now ≡ 6 }
+pub fn milestones_of(words: &[u64; 6]) -> Milestones
     ensures { result ≡ milestones_of words.now }
 {
     Milestones {
@@ -121,13 +119,12 @@ fn put_diagnostics(words: &mut [u64], at: usize, d: Diagnostics)
 }
 
 #[tactic(auto, unfolding(engine_layout::specs::Layout::diagnostics_of))]
-fn diagnostics_of(words: &[u64]) -> Diagnostics
-    requires { length words.now ≡ 61 }
+fn diagnostics_of(words: &[u64; 61]) -> Diagnostics
     ensures { result ≡ diagnostics_of words.now }
 {
-    let candidates = candidates_of(&words[12..52]);
-    let spectral = spectral_of(&words[52..61]);
-    diagnostics_with(&words[0..12], candidates, spectral)
+    let candidates = candidates_of(part(words, 12));
+    let spectral = spectral_of(part(words, 52));
+    diagnostics_with(part(words, 0), candidates, spectral)
 }
 
 // All but the candidates and what the spectral search found.
@@ -154,11 +151,10 @@ fn diagnostics_words(d: Diagnostics) -> [u64; 12]
 
 #[tactic(auto, unfolding(engine_layout::specs::Layout::diagnostics_with))]
 fn diagnostics_with(
-    words: &[u64],
+    words: &[u64; 12],
     candidates: [CandidateDiagnostics; CANDIDATES_MOST],
     spectral: SpectralDiagnostics,
 ) -> Diagnostics
-    requires { length words.now ≡ 12 }
     ensures { result ≡ diagnostics_with words.now candidates spectral }
 {
     Diagnostics {
@@ -196,8 +192,7 @@ fn spectral_words(s: SpectralDiagnostics) -> [u64; 9]
 }
 
 #[tactic(auto, unfolding(engine_layout::specs::Layout::spectral_of))]
-fn spectral_of(words: &[u64]) -> SpectralDiagnostics
-    requires { length words.now ≡ 9 }
+fn spectral_of(words: &[u64; 9]) -> SpectralDiagnostics
     ensures { result ≡ spectral_of words.now }
 {
     SpectralDiagnostics {

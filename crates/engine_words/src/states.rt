@@ -6,7 +6,7 @@ ghost use Rattle.engine_layout.specs.Written.{ReadsBack, configuration_words, en
 
 use crate::snapshots::{LAYOUT, milestones_of, milestones_words, put_snapshot, snapshot_of};
 use engine_layout::options::{hypothesis_of, hypothesis_words, option_of, tag, word_or_zero};
-use engine_layout::rows::put;
+use engine_layout::rows::{part, put};
 use engine_layout::word::Word;
 use engine_spec::types::{Configuration, Engine, Last, Lock, RecordedMs, ReferenceMs, Settings};
 
@@ -31,7 +31,7 @@ pub fn read_state(words: &[u64]) -> Engine
     ensures { result ≡ state_in words.now }
 {
     if words[0] == LAYOUT {
-        return engine_of(&words[1..106]);
+        return engine_of(part(words, 1));
     } else {
         return no_engine();
     }
@@ -59,19 +59,19 @@ fn put_engine(words: &mut [u64], e: Engine)
 }
 
 #[tactic(auto, unfolding(engine_layout::specs::Layout::engine_of))]
-fn engine_of(words: &[u64]) -> Engine
-    requires { length words.now ≡ 105 }
+fn engine_of(words: &[u64; 105]) -> Engine
     ensures { result ≡ engine_of words.now }
 {
     Engine {
-        configuration: configuration_of(&words[0..5]),
-        settings: settings_of(&words[5..9]),
-        lock: lock_of(&words[9..20]),
-        milestones: milestones_of(&words[20..26]),
-        last: last_of(&words[26..105]),
+        configuration: configuration_of(part(words, 0)),
+        settings: settings_of(part(words, 5)),
+        lock: lock_of(part(words, 9)),
+        milestones: milestones_of(part(words, 20)),
+        last: last_of(part(words, 26)),
     }
 }
 
+// Kept: five numbers by name, as in engine_layout's `candidate_words`; what both share is `to_word`.
 #[tactic(auto, unfolding(engine_layout::specs::Layout::configuration_of, engine_layout::specs::Written::configuration_words))]
 fn configuration_words(c: Configuration) -> [u64; 5]
     ensures value { result ≡ configuration_words c }
@@ -87,8 +87,7 @@ fn configuration_words(c: Configuration) -> [u64; 5]
 }
 
 #[tactic(auto, unfolding(engine_layout::specs::Layout::configuration_of))]
-fn configuration_of(words: &[u64]) -> Configuration
-    requires { length words.now ≡ 5 }
+fn configuration_of(words: &[u64; 5]) -> Configuration
     ensures { result ≡ configuration_of words.now }
 {
     Configuration {
@@ -114,8 +113,7 @@ fn settings_words(s: Settings) -> [u64; 4]
 }
 
 #[tactic(auto, unfolding(engine_layout::specs::Layout::settings_of))]
-fn settings_of(words: &[u64]) -> Settings
-    requires { length words.now ≡ 4 }
+fn settings_of(words: &[u64; 4]) -> Settings
     ensures { result ≡ settings_of words.now }
 {
     Settings {
@@ -137,13 +135,12 @@ fn put_lock(words: &mut [u64], at: usize, l: Lock)
 }
 
 #[tactic(auto, unfolding(engine_layout::specs::Layout::lock_of))]
-fn lock_of(words: &[u64]) -> Lock
-    requires { length words.now ≡ 11 }
+fn lock_of(words: &[u64; 11]) -> Lock
     ensures { result ≡ lock_of words.now }
 {
     Lock {
-        pending: hypothesis_of(&words[0..5]),
-        accepted: hypothesis_of(&words[5..10]),
+        pending: hypothesis_of(part(words, 0)),
+        accepted: hypothesis_of(part(words, 5)),
         last_global_search_ms: RecordedMs::from_word(words[10]),
     }
 }
@@ -163,13 +160,12 @@ fn put_last(words: &mut [u64], at: usize, l: Last)
 }
 
 #[tactic(auto, unfolding(engine_layout::specs::Layout::last_of))]
-fn last_of(words: &[u64]) -> Last
-    requires { length words.now ≡ 79 }
+fn last_of(words: &[u64; 79]) -> Last
     ensures { result ≡ last_of words.now }
 {
     Last {
         endpoint_ms: option_of(words[0], words[1]),
         has_snapshot: bool::from_word(words[2]),
-        snapshot: snapshot_of(&words[3..79]),
+        snapshot: snapshot_of(part(words, 3)),
     }
 }

@@ -23,6 +23,7 @@ use engine_words::snapshots::{SNAPSHOT_WORDS, write_snapshot};
 use engine_words::states::{STATE_WORDS, read_state, write_state};
 use matcher_spec::lent::{Features, Index};
 
+// Kept: here and below numbers and flat slices, as the C interface lends them; the header has these names.
 #[tactic(auto, unfolding(crate::specs::Calls::open_code, crate::specs::Calls::index_after), using(crate::proofs::CallLaws::code_refused))]
 pub fn kistovab_open(
     minimum_readiness_duration_ms: f64,

@@ -7,6 +7,7 @@ use workload::load::fill;
 use workload::refusals::load_number;
 
 // Fills a reference or a window from a seed, wholly, or refuses and writes nothing.
+// Kept: flat slices, as the C interface lends them; the header has these names.
 pub fn kistovab_fill_load(
     seed: u64,
     hop_ms: f64,

@@ -12,6 +12,7 @@ ghost use Rattle.kistovab.specs.Calls.{Opens, Submits, age_after, age_code, conf
 ghost use Rattle.kistovab.specs.Codes.{answers};
 ghost use Rattle.matcher_spec.specs.Features.{features};
 
+// Kept: here and below numbers and flat slices, as the C interface lends them; the header has these names.
 #[unsafe(no_mangle)]
 pub extern "C" fn kistovab_open(
     minimum_readiness_duration_ms: f64,

@@ -4,6 +4,7 @@ ghost use Rattle.engine_spec.specs.Lent.{window};
 ghost use Rattle.workload_spec.specs.Fill.{filling_number, load_refusal, slices_after};
 
 // Fills a reference or a window from a seed, wholly, or refuses and writes nothing.
+// Kept: flat slices, as the C interface lends them; the header has these names.
 #[unsafe(no_mangle)]
 pub extern "C" fn kistovab_fill_load(
     seed: u64,

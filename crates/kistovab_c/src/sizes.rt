@@ -18,6 +18,7 @@ pub extern "C" fn kistovab_snapshot_words() -> usize
     kistovab::sizes::kistovab_snapshot_words()
 }
 
+// Kept: here and below counts one by one, as the C interface has them; the header has these names.
 #[unsafe(no_mangle)]
 pub extern "C" fn kistovab_fine_length(frames: usize, bands: usize) -> usize
     ensures { result ≡ fine_length frames bands }

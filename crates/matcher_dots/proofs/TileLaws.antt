@@ -56,9 +56,10 @@ module _ (row query : List Float) where
   dot_to i p = onward (placed p) query (length query / 8 * 8) (lanes (placed p) query (length query / 8)) (i - length query / 8 * 8)
 
   -- all eight lanes are in
-  pub dot_begins : (p : ℕ) → first_lanes (length query / 8) 8 p ≡ dot_to (length query / 8 * 8) p
+  pub dot_begins : (pair p : ℕ) {s : Float} → pair ≡ 4 → s ≡ first_lanes (length query / 8) (2 * pair) p → s ≡ dot_to (length query / 8 * 8) p
   unfolding first_lanes lanes
-  dot_begins p = onward_none (placed p) query (length query / 8 * 8) (lanes (placed p) query (length query / 8))
+  dot_begins pair p e before =
+      (rw e at before) ∙ onward_none (placed p) query (length query / 8 * 8) (lanes (placed p) query (length query / 8))
 
   -- one more product
   pub dot_more : (i p : ℕ) {s x : Float} → s ≡ dot_to i p → x ≡ mul binary32 (get_or row (i + p) nan) (get_or query i nan) → length query / 8 * 8 ≤ i → i < length query

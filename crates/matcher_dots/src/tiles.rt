@@ -14,6 +14,7 @@ use crate::sums::add_each;
 pub const TILE: usize = 24;
 
 // The dot products at as many places as `out` has.
+#[tactic(auto, using(numbers_spec::proofs::RowLaws::filling_none))]
 pub fn dots(out: &mut [f32], row: &[f32], query: &[f32])
     requires { length out.old + length query.now ≤ length row.now + 1 }
     ensures { out.new ≡ tabulate (λ (i : ℕ). dot (take (length query.now) (drop i row.now)) query.now) (length out.old) }
@@ -31,6 +32,7 @@ pub fn dots(out: &mut [f32], row: &[f32], query: &[f32])
 }
 
 // The dot products at the row's first places, a tile of them.
+#[tactic(auto, unfolding(numbers_spec::specs::Rows::tabulate), using(numbers_spec::proofs::PartLaws::row_at, crate::proofs::TileLaws::first_none, crate::proofs::TileLaws::first_more, crate::proofs::TileLaws::dot_begins))]
 fn fill_tile(out: &mut [f32], row: &[f32], query: &[f32])
     requires one_tile { length out.old ≡ tile }
     requires within { length query.now + tile ≤ length row.now + 1 }
@@ -52,6 +54,7 @@ fn fill_tile(out: &mut [f32], row: &[f32], query: &[f32])
 
 // Adds lanes j and j + 1 of the row's first places, a tile of them. Two at once make twelve vectors of sums: with
 // two weights and two products they fill the sixteen registers.
+#[tactic(auto, unfolding(numbers_spec::specs::Rows::tabulate, matcher_spec::specs::Scores::lane), using(numbers_spec::proofs::PartLaws::row_at))]
 fn add_lanes(sums: &mut [f32; TILE], row: &[f32], query: &[f32], j: usize)
     requires within { length query.now + tile ≤ length row.now + 1 }
     requires lanes { j < 7 }

@@ -2,10 +2,10 @@
 ghost use Rattle.std.specs.Prelude.{◌≤◌, OnOk, ◌≡◌, length};
 ghost use Rattle.std.specs.Result.{result_err};
 ghost use Rattle.engine_spec.specs.declared.types.Engine.{Engine};
-ghost use Rattle.engine_layout.specs.Layout.{state_words};
 ghost use Rattle.engine_layout.specs.Written.{ReadsBack};
 ghost use Rattle.places_spec.specs.Places.{is_kept, is_name, keep_refusal, kept, place_in, place_start, places_most, restored, restored_or_refused, store_words};
 
+use engine_layout::rows::part;
 use engine_spec::types::{Engine, Refusal};
 use engine_words::snapshots::LAYOUT;
 use engine_words::states::{STATE_WORDS, read_state, write_state};
@@ -16,6 +16,7 @@ pub const PLACES_MOST: usize = 8;
 pub const STORE_WORDS: usize = 848;
 
 // Keeps the engine under the name. The store's other words stay; a refusal writes nothing.
+#[tactic(auto, using(crate::proofs::StoreLaws::left_alone, crate::proofs::StoreLaws::put_back))]
 pub fn keep(engine: Engine, name: usize, store: &mut [u64]) -> Result<(), Refusal>
     ensures value { result_err result ≡ keep_refusal name (length store.old) }
     ensures words { store.new ≡ kept engine name store.old }
@@ -28,6 +29,7 @@ pub fn keep(engine: Engine, name: usize, store: &mut [u64]) -> Result<(), Refusa
 }
 
 // Gives back what is kept under the name, whatever engine runs.
+#[tactic(auto, using(crate::proofs::StoreLaws::empty, crate::proofs::StoreLaws::given))]
 pub fn restore(name: usize, store: &[u64]) -> Result<Engine, Refusal>
     ensures { (running : Engine) → result ≡ restored_or_refused (restored running name store.now) }
 {
@@ -70,20 +72,17 @@ fn place_start(name: usize) -> usize
     (name - 1) * STATE_WORDS
 }
 
-fn place_of(name: usize, store: &[u64]) -> &[u64]
+fn place_of(name: usize, store: &[u64]) -> &[u64; STATE_WORDS]
     requires least { 1 ≤ name }
     requires most { name ≤ places_most }
     requires long { store_words ≤ length store.now }
-    ensures value { result.now ≡ place_in name store.now }
-    ensures whole { length result.now ≡ state_words }
+    ensures { result.now ≡ place_in name store.now }
 {
-    let at = place_start(name);
-    &store[at..at + STATE_WORDS]
+    part(store, place_start(name))
 }
 
 // Zeros keep nothing, nor do words of another layout.
-fn is_kept(place: &[u64]) -> bool
-    requires { length place.now ≡ state_words }
+fn is_kept(place: &[u64; STATE_WORDS]) -> bool
     ensures { result ≡ is_kept place.now }
 {
     place[0] == LAYOUT

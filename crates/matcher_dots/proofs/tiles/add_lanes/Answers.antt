@@ -2,17 +2,8 @@ use Rattle.std.proofs.Common.{rules, ℕ, ◌≡◌, ◌+◌, ◌*◌, ◌/◌, 
 use Rattle.std.specs.Float.{nan}
 use Rattle.std.specs.Float.{binary32}
 use Rattle.std.specs.Float.Ieee.{mul}
-use Rattle.matcher_spec.specs.Energy.{zero_f32}
-use Rattle.matcher_spec.specs.Scores.{lane}
-use Rattle.numbers_spec.specs.Rows.{tabulate}
-use Rattle.numbers_spec.proofs.PartLaws.{row_at}
-use Rattle.matcher_dots.specs.Tiles.{tile}
 use Rattle.matcher_dots.proofs.TileLaws.{lane_next}
 use Rattle.matcher_dots.proofs.tiles.add_lanes.Goals as goal
-
-pub loop-k-init : goal.loop-k-init
-unfolding lane tabulate
-loop-k-init c = record { evens = λ p h. row_at (λ q. zero_f32) tile p nan refl h; odds = λ p h. row_at (λ q. zero_f32) tile p nan refl h }
 
 pub loop-k-preserved : goal.loop-k-preserved
 loop-k-preserved c =

@@ -1,10 +1,7 @@
 use Rattle.std.proofs.Common.{◌≡◌, ◌+◌, ◌-◌, length, ◌∙◌, arith}
-use Rattle.numbers_spec.proofs.RowLaws.{filling_none, filling_more}
+use Rattle.numbers_spec.proofs.RowLaws.{filling_more}
 use Rattle.matcher_dots.proofs.TileLaws.{tile_more}
 use Rattle.matcher_dots.proofs.tiles.dots.Goals as goal
-
-pub loop-t-init : goal.loop-t-init
-loop-t-init c = filling_none _ _
 
 pub loop-t-preserved : goal.loop-t-preserved
 loop-t-preserved c = tile_more c.args.row.now c.args.query.now c.loop-t.t c.args.out.now c.loop-t.invariant c.fill_tile.ensures (omega arith)

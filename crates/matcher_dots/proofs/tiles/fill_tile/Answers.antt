@@ -2,26 +2,11 @@ use Rattle.std.proofs.Common.{rules, ℕ, ◌≡◌, ◌+◌, get_or, length, re
 use Rattle.std.specs.Float.{nan}
 use Rattle.std.specs.Float.{binary32}
 use Rattle.std.specs.Float.Ieee.{mul}
-use Rattle.matcher_spec.specs.Energy.{zero_f32}
 use Rattle.matcher_spec.specs.Scores.{dot}
-use Rattle.numbers_spec.specs.Rows.{tabulate}
-use Rattle.numbers_spec.proofs.PartLaws.{row_at}
 use Rattle.matcher_dots.specs.Tiles.{tile}
 use Rattle.matcher_dots.proofs.DotLaws.{tabulated}
-use Rattle.matcher_dots.proofs.TileLaws.{placed, first_none, first_more, dot_begins, dot_more, dot_ends}
+use Rattle.matcher_dots.proofs.TileLaws.{placed, dot_more, dot_ends}
 use Rattle.matcher_dots.proofs.tiles.fill_tile.Goals as goal
-
-pub loop-pair-init : goal.loop-pair-init
-unfolding tabulate
-loop-pair-init c p h = row_at (λ q. zero_f32) tile p nan refl h ∙ first_none c.args.row.now c.args.query.now _ p
-
-pub loop-pair-preserved : goal.loop-pair-preserved
-loop-pair-preserved c p h = c.add_lanes.ensures p h ∙ first_more c.args.row.now c.args.query.now _ c.loop-pair.pair p (c.loop-pair.invariant p h)
-
-pub loop-i-init : goal.loop-i-init
-loop-i-init c p h =
-    let all : c.loop-pair.pair ≡ 4 = omega arith in
-    (rw all at c.loop-pair.invariant p h) ∙ dot_begins c.args.row.now c.args.query.now p
 
 pub loop-i-preserved : goal.loop-i-preserved
 loop-i-preserved c p h =
