@@ -1,8 +1,8 @@
-// What a decision on a window sees of an engine, and what it decides.
+// What a decision on a window sees, and what it decides.
 use engine_spec::types::{Configuration, Lock, Reached, Settings, Verdict};
 use matcher_spec::types::MatchResult;
 
-// Which milestones are there is known, and no clock reading: nothing that the clock tells steers.
+// What is seen of an engine: of its milestones only which are there, so that no clock reading steers.
 #[derive(Clone, Copy)]
 pub struct Seen {
     pub configuration: Configuration,

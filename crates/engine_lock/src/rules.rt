@@ -154,7 +154,7 @@ fn after_chain(k: Reached) -> Reached
 }
 
 impl WholeSearch {
-    // What the window leaves by it.
+    // What it leaves, whether it passes or not.
     #[tactic(auto, unfolding(engine_spec::specs::Locking::whole_searched))]
     pub fn judged(self, hop: f64) -> Searched
         ensures result_value { searched_in result ≡ whole_searched hop self.evidence self.endpoint self.reached self.pending (tracked_in self.tracked) self.found.items }
@@ -170,7 +170,7 @@ impl WholeSearch {
         self.passed(hop, best)
     }
 
-    // Where it passed with this best.
+    // What it leaves where it passes with this best.
     #[tactic(auto, unfolding(engine_spec::specs::Locking::passed))]
     fn passed(self, hop: f64, best: Candidate) -> Searched
         requires { self.found.items ≡ best ∷ drop 1 self.found.items }
@@ -210,7 +210,7 @@ impl WholeSearch {
         }
     }
 
-    // Where it did not pass.
+    // What it leaves where it does not pass.
     fn not_passed(self) -> Searched
         ensures result_value { searched_in result ≡ not_passed self.evidence self.endpoint self.reached self.pending (tracked_in self.tracked) self.found.items }
         ensures found_value { result.found ≡ self.found }

@@ -5,10 +5,10 @@ use engine_spec::lent::Window;
 use engine_spec::types::{Lock, Reached};
 use matcher_spec::lent::Matcher;
 
-// One window's search: whether a whole one is granted, what is searched for what, and what the engine
+// One window's search: whether a whole one is granted, the matcher, the window, and what the engine
 // has: which milestones are there, and the lock.
-// Kept: how long the working slices are is asked beside them, since they are lent `&mut`, and a fact
-// of a struct is about what it holds.
+// Kept: how long the working slices are is asked beside them: they are lent `&mut`, and a fact of a
+// struct is about what it holds.
 #[derive(Drop)]
 pub struct Search<'a> {
     pub granted: bool,
