@@ -47,7 +47,7 @@ impl Opening {
     }
 
     // The reference, all of it.
-    pub fn reference(self) -> Reference {
+    pub(crate) fn reference(self) -> Reference {
         let mut times = [0.0f64; FRAMES];
         let mut values = [0.0f32; VALUES];
         fill_times(&mut times, self.start, self.hop);
@@ -60,7 +60,7 @@ impl Opening {
 
 // A reference as it is made: as many times and values as there may be.
 #[derive(Drop)]
-pub struct Reference {
+pub(crate) struct Reference {
     pub times: [f64; FRAMES],
     pub values: [f32; VALUES],
 }

@@ -11,11 +11,11 @@ use kistovab::sizes::kistovab_fine_length;
 use replays::sound::fill_times;
 
 // The most frames and bands of a window: one band more than a reference's.
-pub const FRAMES: usize = 120;
+pub(crate) const FRAMES: usize = 120;
 
-pub const BANDS: usize = opening::BANDS + 1;
+pub(crate) const BANDS: usize = opening::BANDS + 1;
 
-pub const VALUES: usize = BANDS * FRAMES;
+pub(crate) const VALUES: usize = BANDS * FRAMES;
 
 // What makes a window, and what comes with it. `fault` and `at` say what is wrong with it, see
 // faults.rt.
@@ -53,7 +53,7 @@ impl Submission {
     }
 
     // The window, all of it, of what is heard of the reference.
-    pub fn made(self, o: Opening) -> Made {
+    pub(crate) fn made(self, o: Opening) -> Made {
         let mut times = [0.0f64; FRAMES];
         let mut energies = [0.0f64; FRAMES];
         let mut values = [0.0f32; VALUES];
@@ -70,19 +70,19 @@ impl Submission {
     }
 
     // The bands of it that there are.
-    pub fn bands(self, o: Opening) -> usize {
+    pub(crate) fn bands(self, o: Opening) -> usize {
         faults::made_bands(self.fault, o.bands)
     }
 
     // How much is lent of what has to hold `needed`.
-    pub fn lent(self, short: Fault, needed: usize) -> usize {
+    pub(crate) fn lent(self, short: Fault, needed: usize) -> usize {
         faults::lent(self.fault, short, needed, needed)
     }
 }
 
 // A window as it is made: as many times, energies and values as there may be.
 #[derive(Drop)]
-pub struct Made {
+pub(crate) struct Made {
     times: [f64; FRAMES],
     energies: [f64; FRAMES],
     values: [f32; VALUES],
@@ -90,7 +90,7 @@ pub struct Made {
 
 impl Made {
     // As much of it as is lent.
-    pub fn lent(&self, o: Opening, s: Submission) -> Window<'_> {
+    pub(crate) fn lent(&self, o: Opening, s: Submission) -> Window<'_> {
         let bands = s.bands(o);
         let size = kistovab_fine_length(s.frames, bands);
         Window {
