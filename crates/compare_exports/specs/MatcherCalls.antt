@@ -1,8 +1,8 @@
 -- What the C calls of the matcher answer and write, for slices of any lengths. Definitions only.
-use Rattle.std.specs.Prelude.{ℕ, ◌+◌, ◌-◌, ◌*◌, ◌/◌, Bool, cond, ◌&&◌, List, [], ◌∷◌, ◌++◌, eqb, leb, ltb, drop, get_or, length, replicate, set, take, Float}
+use Rattle.std.specs.Prelude.{ℕ, ◌+◌, ◌*◌, ◌/◌, Bool, cond, ◌&&◌, List, [], ◌∷◌, ◌++◌, eqb, leb, ltb, drop, get_or, length, set, take, Float}
 use Rattle.std.specs.Float.Ieee.{le}
 use Rattle.std.specs.Float.{nan}
-use Rattle.matcher_spec.specs.Candidates.{blank, margin_of}
+use Rattle.matcher_spec.specs.Candidates.{eight_of, margin_of}
 use Rattle.matcher_spec.specs.Index.{Index, accepts_reference, filled, lent, lent_bands, lent_matcher, matcher_of}
 use Rattle.matcher_spec.specs.Features.{Features}
 use Rattle.matcher_spec.specs.Search.{local_search, whole_search}
@@ -65,10 +65,6 @@ numbers_of (c ∷ cs) = c.offset_ms ∷ c.score ∷ c.first_half_score ∷ c.sec
 -- How many were found, or that something does not fit.
 abbrev pub counted : Bool → List Candidate → ℕ
 counted fits found = cond fits (length found) unfit
-
--- The candidates found and blank ones behind the last, 8 in all.
-abbrev pub eight_of : List Candidate → List Candidate
-eight_of found = found ++ replicate (candidates_most - length found) blank
 
 -- The numbers of 8 candidates, zeros behind the last found, and the old tail.
 abbrev pub written : Bool → List Candidate → List Float → List Float

@@ -1,7 +1,8 @@
 // The matcher, for Rust to call. Sizes that do not fit are answered by `UNFIT`, and then nothing is
 // written.
 ghost use Rattle.std.specs.Prelude.{IsTrue, true, ◌+◌, ◌*◌, ◌/◌, ◌<◌, ◌≤◌, drop, length, ◌++◌, ◌≡◌};
-ghost use Rattle.compare_exports.specs.MatcherCalls.{candidate_at, candidates_at, counted, eight_of, fill_answer, filled_buffers, fits_bands, fits_fill_lengths, fits_limits, fits_local, fits_margin, fits_whole, fits_window, found_in, found_near, margin_answer, margin_written, numbers_of, reference_of, written};
+ghost use Rattle.compare_exports.specs.MatcherCalls.{candidate_at, candidates_at, counted, fill_answer, filled_buffers, fits_bands, fits_fill_lengths, fits_limits, fits_local, fits_margin, fits_whole, fits_window, found_in, found_near, margin_answer, margin_written, numbers_of, reference_of, written};
+ghost use Rattle.matcher_spec.specs.Candidates.{eight_of};
 ghost use Rattle.matcher_spec.specs.Centring.{wide_hop};
 ghost use Rattle.matcher_spec.specs.Energy.{Holds};
 ghost use Rattle.matcher_spec.specs.Index.{lent};
@@ -10,9 +11,10 @@ ghost use Rattle.matcher_spec.specs.Features.{features};
 ghost use Rattle.matcher_spec.specs.Limits.{bands_most, candidates_most, frames_most};
 
 use matcher::index::fill_index;
+use matcher::lent::{lent_fine, lent_matcher};
 use matcher::local::local_search;
 use matcher::whole::whole_search;
-use matcher_picks::candidates::margin;
+use matcher_picks::candidates::{eight_of, margin};
 use matcher_spec::lent::{Features, Index};
 use matcher_spec::limits::{
     BANDS_MOST, CANDIDATES_MOST, FRAMES_MOST, HOP_LEAST, HOP_MOST, WINDOW_MOST,
@@ -27,6 +29,7 @@ const UNFIT: usize = 255;
 const NUMBERS: usize = 40;
 
 // Whether a reference is within document 01's limits.
+// Kept: three numbers, since of a reference that an index is filled with there is no `Reference`.
 #[tactic(auto, unfolding(crate::specs::MatcherCalls::fits_limits))]
 fn fits_limits(bands: usize, frames: usize, hop: f64) -> bool
     ensures value { result ≡ fits_limits bands frames hop }
@@ -36,6 +39,7 @@ fn fits_limits(bands: usize, frames: usize, hop: f64) -> bool
 }
 
 // Whether slices of these lengths hold n values a band, and their energies.
+// Kept: `few`, so that the products do not overflow.
 #[tactic(auto, using(crate::proofs::FitLaws::few), unfolding(crate::specs::MatcherCalls::fits_bands))]
 fn fits_bands(bands: usize, n: usize, values: usize, energy: usize) -> bool
     requires few { bands ≤ bands_most }
@@ -47,6 +51,7 @@ fn fits_bands(bands: usize, n: usize, values: usize, energy: usize) -> bool
 }
 
 // Whether the lengths of a window's slices and of the working buffers are enough.
+// Kept: the lengths alone, here and in the two below, since the working slices are lent `&mut`.
 #[tactic(auto, using(crate::proofs::FitLaws::few), unfolding(crate::specs::MatcherCalls::fits_window))]
 fn fits_window(frames: usize, window: &Features<'_>, work32: usize, work64: usize) -> bool
     requires { frames ≤ frames_most }
@@ -88,6 +93,7 @@ fn fits_fill(
 }
 
 // Fills the index and answers 1, or answers 0 where the reference is rejected.
+// Kept: flat slices and numbers in the three calls, which the C interface lends so.
 #[unsafe(no_mangle)]
 #[tactic(auto, unfolding(crate::specs::MatcherCalls::fill_answer, crate::specs::MatcherCalls::filled_buffers))]
 pub extern "C" fn matcher_fill_index(
@@ -127,15 +133,6 @@ pub extern "C" fn matcher_fill_index(
     0
 }
 
-// The candidates found, and blank ones behind the last.
-fn eight_of(found: &MatchResult) -> [Candidate; CANDIDATES_MOST]
-    ensures { result ≡ eight_of found.now.items }
-{
-    let mut eight = [Candidate::default(); CANDIDATES_MOST];
-    eight[..found.len()].copy_from_slice(found);
-    eight
-}
-
 // Writes the numbers of eight candidates, five each: zeros behind the last found.
 fn write_candidates(out: &mut [f64], found: &MatchResult)
     requires { 40 ≤ length out.old }
@@ -160,26 +157,22 @@ fn write_candidates(out: &mut [f64], found: &MatchResult)
 #[tactic(auto, unfolding(crate::specs::MatcherCalls::fits_local_lengths))]
 fn fits_local(
     reference: Reference,
-    index: &Index<'_>,
+    fine: &[f32],
+    energy: &[f64],
     window: &Features<'_>,
     work32: usize,
     work64: usize,
     out: usize,
 ) -> bool
-    ensures value { result ≡ fits_local reference index.now.fine index.now.fine_energy window.now work32 work64 out }
+    ensures value { result ≡ fits_local reference fine.now energy.now window.now work32 work64 out }
     ensures in_range { IsTrue result → InRange reference }
-    ensures holds { IsTrue result → Holds reference.bands reference.frames index.now.fine index.now.fine_energy }
+    ensures holds { IsTrue result → Holds reference.bands reference.frames fine.now energy.now }
     ensures whole { IsTrue result → length window.now.values ≡ window.now.bands * length window.now.times }
     ensures room { IsTrue result → (2 * (window.now.bands * length window.now.times) ≤ work32) × (3 * (window.now.bands * (length window.now.times + 1)) + reference.frames ≤ work64) × (40 ≤ out) }
 {
     fits_limits(reference.bands, reference.frames, reference.hop_ms)
         && fits_window(reference.frames, window, work32, work64)
-        && fits_bands(
-            reference.bands,
-            reference.frames,
-            index.fine.len(),
-            index.fine_energy.len(),
-        )
+        && fits_bands(reference.bands, reference.frames, fine.len(), energy.len())
         && NUMBERS <= out
 }
 
@@ -200,13 +193,20 @@ fn fits_whole(
     ensures whole { IsTrue result → length window.now.values ≡ window.now.bands * length window.now.times }
     ensures room { IsTrue result → (2 * (window.now.bands * length window.now.times) ≤ work32) × (3 * (window.now.bands * (length window.now.times + 1)) + reference.frames ≤ work64) × (40 ≤ out) }
 {
-    fits_local(reference, index, window, work32, work64, out)
-        && fits_bands(
-            reference.bands,
-            reference.frames / 4,
-            index.coarse.len(),
-            index.coarse_energy.len(),
-        )
+    fits_local(
+        reference,
+        index.fine,
+        index.fine_energy,
+        window,
+        work32,
+        work64,
+        out,
+    ) && fits_bands(
+        reference.bands,
+        reference.frames / 4,
+        index.coarse.len(),
+        index.coarse_energy.len(),
+    )
 }
 
 // The candidates of the whole reference: their number is the answer.
@@ -257,7 +257,8 @@ pub extern "C" fn matcher_whole_search(
     ) {
         return UNFIT;
     }
-    let found = whole_search(&index, reference, &window, work32, work64);
+    let matcher = lent_matcher(reference, &index);
+    let found = whole_search(&matcher, &window, work32, work64);
     write_candidates(out, &found);
     found.len()
 }
@@ -289,13 +290,6 @@ pub extern "C" fn matcher_local_search(
         start_ms: start,
         hop_ms: hop,
     };
-    // A local search reads no coarse half.
-    let index = Index {
-        fine,
-        coarse: &fine[..0],
-        fine_energy: energy,
-        coarse_energy: &energy[..0],
-    };
     let window = Features {
         bands,
         times,
@@ -303,7 +297,8 @@ pub extern "C" fn matcher_local_search(
     };
     if !fits_local(
         reference,
-        &index,
+        fine,
+        energy,
         &window,
         work32.len(),
         work64.len(),
@@ -311,7 +306,8 @@ pub extern "C" fn matcher_local_search(
     ) {
         return UNFIT;
     }
-    let found = local_search(&index, reference, &window, lower, upper, work32, work64);
+    let half = lent_fine(reference, fine, energy);
+    let found = local_search(&half, &window, lower, upper, work32, work64);
     write_candidates(out, &found);
     found.len()
 }

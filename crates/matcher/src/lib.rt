@@ -4,6 +4,7 @@
 #![tactic(auto)]
 
 mod fronts;
+pub mod lent;
 pub mod local;
 pub mod whole;
 

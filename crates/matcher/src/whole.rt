@@ -3,12 +3,12 @@ ghost use Rattle.std.specs.Prelude.{◌+◌, ◌-◌, ◌*◌, ◌<◌, ◌/◌,
 ghost use Rattle.std.specs.List.{All};
 ghost use Rattle.matcher_spec.specs.Candidates.{sorted};
 ghost use Rattle.matcher_spec.specs.Energy.{Holds, reduced, whole_energies};
-ghost use Rattle.matcher_spec.specs.Index.{lent_bands, lent_matcher};
+ghost use Rattle.matcher_spec.specs.Index.{lent_bands};
 ghost use Rattle.matcher_spec.specs.Lent.{bands_in};
 ghost use Rattle.matcher_spec.specs.Limits.{bands_most, frames_most};
 ghost use Rattle.matcher_spec.specs.Peaks.{peaks};
 ghost use Rattle.matcher_spec.specs.Scores.{correlations};
-ghost use Rattle.matcher_spec.specs.Search.{FilledQuery, InRange, QueryFits, WorkRoom, candidates_at, coarse_scores, separation, whole_found, whole_search};
+ghost use Rattle.matcher_spec.specs.Search.{FilledQuery, WorkRoom, candidates_at, coarse_scores, separation, whole_found, whole_search};
 
 use crate::fronts::{front_bands, query_frames, query_start};
 use matcher_bands::energy::{fill_energies, reduce_bands};
@@ -18,29 +18,26 @@ use matcher_filling::query::fill_query;
 use matcher_picks::candidates::{insert_by_score, keep_independent, nothing_found};
 use matcher_picks::peaks::{Picked, pick_peaks};
 use matcher_spec::constants::APART_MS;
-use matcher_spec::lent::{Bands, Features, Index};
-use matcher_spec::types::{MatchResult, Reference};
+use matcher_spec::lent::{Bands, Features, Matcher, Paired};
+use matcher_spec::types::MatchResult;
 use numbers::whole::count;
 
 // The candidates of the whole reference, for a caller that makes one search of a window: crates
-// compare_exports and matcher_replay. The buffers hold the index at their fronts. What the working
-// buffers held does not matter, and what they hold afterwards is free.
+// compare_exports and matcher_replay. What the working buffers held does not matter, and what they
+// hold afterwards is free.
+// Kept: window and working slices one by one, as in `local_search`.
 pub fn whole_search(
-    index: &Index<'_>,
-    reference: Reference,
+    matcher: &Matcher<'_>,
     window: &Features<'_>,
     work32: &mut [f32],
     work64: &mut [f64],
 ) -> MatchResult
-    requires in_range { InRange reference }
-    requires holds { Holds reference.bands reference.frames index.now.fine index.now.fine_energy }
-    requires holds_2 { Holds reference.bands (reference.frames / 4) index.now.coarse index.now.coarse_energy }
     requires values_len_1 { length window.now.values ≡ window.now.bands * length window.now.times }
-    requires values_len_2 { WorkRoom reference window.now.bands (length window.now.times) work32.old work64.old }
-    ensures value { result.items ≡ whole_search (lent_matcher reference index.now) window.now }
+    requires values_len_2 { WorkRoom matcher.now.reference window.now.bands (length window.now.times) work32.old work64.old }
+    ensures value { result.items ≡ whole_search matcher.now window.now }
 {
-    let filled = fill_query(reference, window, work32, work64);
-    whole_found(filled, index, reference, window, work32, work64)
+    let filled = fill_query(matcher.fine.reference, window, work32, work64);
+    whole_found(filled, matcher, window, work32, work64)
 }
 
 // The candidates of the whole reference, by the query that `fill_query` filled for the window: none
@@ -49,43 +46,32 @@ pub fn whole_search(
 #[tactic(auto, unfolding(matcher_spec::specs::Search::whole_search))]
 pub fn whole_found(
     filled: bool,
-    index: &Index<'_>,
-    reference: Reference,
+    matcher: &Matcher<'_>,
     window: &Features<'_>,
     work32: &mut [f32],
     work64: &mut [f64],
 ) -> MatchResult
-    requires in_range { InRange reference }
-    requires holds { Holds reference.bands reference.frames index.now.fine index.now.fine_energy }
-    requires holds_2 { Holds reference.bands (reference.frames / 4) index.now.coarse index.now.coarse_energy }
-    requires work_room { WorkRoom reference window.now.bands (length window.now.times) work32.old work64.old }
-    requires filled_query { FilledQuery reference window.now filled work32.old work64.old }
-    ensures value { result.items ≡ whole_search (lent_matcher reference index.now) window.now }
+    requires work_room { WorkRoom matcher.now.reference window.now.bands (length window.now.times) work32.old work64.old }
+    requires filled_query { FilledQuery matcher.now.reference window.now filled work32.old work64.old }
+    ensures value { result.items ≡ whole_search matcher.now window.now }
 {
     if !filled {
         return nothing_found();
     }
-    let n = query_frames(reference, window);
-    let (values, averages) = work32.split_at_mut(reference.bands * n);
-    let (energy, rest) = work64.split_at_mut(reference.bands * (n + 1));
+    let fine = &matcher.fine;
+    let bands = fine.reference.bands;
+    let n = query_frames(fine, window);
+    let (values, averages) = work32.split_at_mut(bands * n);
+    let (energy, rest) = work64.split_at_mut(bands * (n + 1));
     let compared = Comparison {
-        reference,
-        fine: front_bands(
-            reference.bands,
-            reference.frames,
-            index.fine,
-            index.fine_energy,
-        ),
-        query: front_bands(reference.bands, n, values, energy),
-        start: query_start(reference, window),
+        reference: fine.reference,
+        bands: Paired {
+            reference: fine.bands,
+            query: front_bands(bands, n, values, energy),
+        },
+        start: query_start(fine, window),
     };
-    let coarse = front_bands(
-        reference.bands,
-        reference.frames / 4,
-        index.coarse,
-        index.coarse_energy,
-    );
-    whole_candidates(&compared, &coarse, averages, rest)
+    whole_candidates(&compared, &matcher.coarse, averages, rest)
 }
 
 // The candidates of the whole reference. The query's averages by fours are worked out in
@@ -100,60 +86,61 @@ fn whole_candidates(
     requires same_bands { coarse.now.bands ≡ compared.now.reference.bands }
     requires some { 0 < coarse.now.bands }
     requires fourth { coarse.now.count ≡ compared.now.reference.frames / 4 }
-    requires averages_room { compared.now.query.bands * (compared.now.query.count / 4) ≤ length averages.old }
-    requires work_room { compared.now.query.bands * (compared.now.query.count / 4 + 1) + compared.now.reference.frames ≤ length work.old }
-    ensures { result.items ≡ whole_found (record { reference = compared.now.reference; fine = bands_in compared.now.fine; coarse = bands_in coarse.now }) (bands_in compared.now.query) compared.now.start }
+    requires averages_room { compared.now.bands.query.bands * (compared.now.bands.query.count / 4) ≤ length averages.old }
+    requires work_room { compared.now.bands.query.bands * (compared.now.bands.query.count / 4 + 1) + compared.now.reference.frames ≤ length work.old }
+    ensures { result.items ≡ whole_found (record { reference = compared.now.reference; fine = bands_in compared.now.bands.reference; coarse = bands_in coarse.now }) (bands_in compared.now.bands.query) compared.now.start }
 {
     let apart = peak_separation(compared.reference.hop_ms);
-    let picked = coarse_peaks(coarse, &compared.query, apart, averages, work);
+    let paired = Paired {
+        reference: *coarse,
+        query: compared.bands.query,
+    };
+    let picked = coarse_peaks(&paired, apart, averages, work);
     let found = candidates_around(compared, &picked, work);
     keep_independent(&found)
 }
 
-// The peaks of the scores of the bands averaged by fours. The query's averages are worked out in
-// `averages`, their energies and the scores behind them in `work`.
+// The peaks of the scores of the bands averaged by fours, which the reference's are already. The
+// query's averages are worked out in `averages`, their energies and the scores behind them in
+// `work`.
 #[tactic(auto, unfolding(matcher_spec::specs::Search::coarse_scores))]
 fn coarse_peaks(
-    coarse: &Bands<'_>,
-    query: &Bands<'_>,
+    paired: &Paired<'_>,
     separation: usize,
     averages: &mut [f32],
     work: &mut [f64],
 ) -> Picked
-    requires same_bands { query.now.bands ≡ coarse.now.bands }
-    requires some { 0 < coarse.now.bands }
-    requires few { coarse.now.bands ≤ bands_most }
-    requires short { coarse.now.count ≤ frames_most }
-    requires within { query.now.count / 4 ≤ coarse.now.count }
-    requires averages_room { query.now.bands * (query.now.count / 4) ≤ length averages.old }
-    requires work_room { query.now.bands * (query.now.count / 4 + 1) + (coarse.now.count + 1) ≤ length work.old }
-    ensures value { result.items ≡ peaks (coarse_scores coarse.now.bands (bands_in coarse.now) (bands_in query.now)) separation }
-    ensures in_bounds { All (λ place. place ≤ coarse.now.count) result.items }
+    requires some { 0 < paired.now.reference.bands }
+    requires few { paired.now.reference.bands ≤ bands_most }
+    requires short { paired.now.reference.count ≤ frames_most }
+    requires within { paired.now.query.count / 4 ≤ paired.now.reference.count }
+    requires averages_room { paired.now.query.bands * (paired.now.query.count / 4) ≤ length averages.old }
+    requires work_room { paired.now.query.bands * (paired.now.query.count / 4 + 1) + (paired.now.reference.count + 1) ≤ length work.old }
+    ensures value { result.items ≡ peaks (coarse_scores paired.now.reference.bands (bands_in paired.now.reference) (bands_in paired.now.query)) separation }
+    ensures in_bounds { All (λ place. place ≤ paired.now.reference.count) result.items }
 {
+    let query = &paired.query;
     let size = query.count / 4;
     let (energy, scores) = work.split_at_mut(query.bands * (size + 1));
     average_query(averages, energy, query);
-    let reduced = front_bands(query.bands, size, averages, energy);
-    all_peaks(coarse, &reduced, separation, scores)
+    let reduced = Paired {
+        reference: paired.reference,
+        query: front_bands(query.bands, size, averages, energy),
+    };
+    all_peaks(&reduced, separation, scores)
 }
 
 // The peaks of the query's scores at all places. They are worked out at the front of `scores`.
-fn all_peaks(
-    reference: &Bands<'_>,
-    query: &Bands<'_>,
-    separation: usize,
-    scores: &mut [f64],
-) -> Picked
-    requires same_bands { query.now.bands ≡ reference.now.bands }
-    requires few { reference.now.bands ≤ bands_most }
-    requires short { reference.now.count ≤ frames_most }
-    requires within { query.now.count ≤ reference.now.count }
-    requires room { reference.now.count + 1 ≤ length scores.old }
-    ensures value { result.items ≡ peaks (correlations reference.now.bands (bands_in reference.now) query.now.count query.now.values.now (whole_energies query.now.bands (bands_in query.now)) 0 (reference.now.count - query.now.count + 1)) separation }
-    ensures in_bounds { All (λ place. place ≤ reference.now.count) result.items }
+fn all_peaks(paired: &Paired<'_>, separation: usize, scores: &mut [f64]) -> Picked
+    requires few { paired.now.reference.bands ≤ bands_most }
+    requires short { paired.now.reference.count ≤ frames_most }
+    requires within { paired.now.query.count ≤ paired.now.reference.count }
+    requires room { paired.now.reference.count + 1 ≤ length scores.old }
+    ensures value { result.items ≡ peaks (correlations paired.now.reference.bands (bands_in paired.now.reference) paired.now.query.count paired.now.query.values.now (whole_energies paired.now.query.bands (bands_in paired.now.query)) 0 (paired.now.reference.count - paired.now.query.count + 1)) separation }
+    ensures in_bounds { All (λ place. place ≤ paired.now.reference.count) result.items }
 {
-    let scores = &mut scores[..reference.count - query.count + 1];
-    score_places(scores, reference, query, 0);
+    let scores = &mut scores[..paired.reference.count - paired.query.count + 1];
+    score_places(scores, paired, 0);
     pick_peaks(scores, separation)
 }
 
@@ -181,9 +168,9 @@ fn peak_separation(hop: f64) -> usize
 fn candidates_around(compared: &Comparison<'_>, picked: &Picked, scores: &mut [f64]) -> MatchResult
     requires in_bounds { All (λ peak. peak ≤ frames_most) picked.now.items }
     requires room { compared.now.reference.frames ≤ length scores.old }
-    ensures { result.items ≡ sorted (candidates_at compared.now.reference (bands_in compared.now.fine) (bands_in compared.now.query) compared.now.start picked.now.items) }
+    ensures { result.items ≡ sorted (candidates_at compared.now.reference (bands_in compared.now.bands.reference) (bands_in compared.now.bands.query) compared.now.start picked.now.items) }
 {
-    let last = compared.reference.frames - compared.query.count;
+    let last = compared.reference.frames - compared.bands.query.count;
     let mut found = nothing_found();
     for peak in picked.iter() {
         let centre = *peak * 4;

@@ -9,14 +9,15 @@ ghost use Rattle.matcher_spec.specs.Search.{candidate_in, candidate_of, fraction
 use crate::comparison::Comparison;
 use matcher_bands::energy::whole_energies;
 use matcher_picks::peaks::first_maximum;
-use matcher_scores::scores::{correlations, score_part};
+use matcher_scores::scores::{Scoring, correlations, score_part};
 use matcher_spec::constants::RECENT_MS;
-use matcher_spec::lent::Bands;
+use matcher_spec::lent::Paired;
 use matcher_spec::types::Candidate;
 use numbers::float::real;
 use numbers::whole::count;
 
 // The best of the places from `low` to `high`. Their scores are worked out at the front of `scores`.
+// Kept: two ends and `low ≤ high`, which a range of places and one of frames share by shape alone.
 #[tactic(auto, unfolding(matcher_spec::specs::Search::candidate_in))]
 pub fn best_candidate(
     compared: &Comparison<'_>,
@@ -25,41 +26,40 @@ pub fn best_candidate(
     scores: &mut [f64],
 ) -> Candidate
     requires some { low ≤ high }
-    requires within { high + compared.now.query.count ≤ compared.now.reference.frames }
+    requires within { high + compared.now.bands.query.count ≤ compared.now.reference.frames }
     requires room { compared.now.reference.frames ≤ length scores.old }
-    ensures { result ≡ candidate_in compared.now.reference (bands_in compared.now.fine) (bands_in compared.now.query) compared.now.start low high }
+    ensures { result ≡ candidate_in compared.now.reference (bands_in compared.now.bands.reference) (bands_in compared.now.bands.query) compared.now.start low high }
 {
     let places = &mut scores[..high - low + 1];
-    score_places(places, &compared.fine, &compared.query, low);
+    score_places(places, &compared.bands, low);
     candidate_of(compared, places, low)
 }
 
 // Fills `scores` with those of the places from `low` on.
-pub fn score_places(scores: &mut [f64], reference: &Bands<'_>, query: &Bands<'_>, low: usize)
-    requires same_bands { query.now.bands ≡ reference.now.bands }
-    requires few { reference.now.bands ≤ bands_most }
-    requires short { reference.now.count ≤ frames_most }
-    requires within { low + length scores.old + query.now.count ≤ reference.now.count + 1 }
-    ensures { scores.new ≡ correlations reference.now.bands (bands_in reference.now) query.now.count query.now.values.now (whole_energies query.now.bands (bands_in query.now)) low (length scores.old) }
+pub fn score_places(scores: &mut [f64], paired: &Paired<'_>, low: usize)
+    requires few { paired.now.reference.bands ≤ bands_most }
+    requires short { paired.now.reference.count ≤ frames_most }
+    requires within { low + length scores.old + paired.now.query.count ≤ paired.now.reference.count + 1 }
+    ensures { scores.new ≡ correlations paired.now.reference.bands (bands_in paired.now.reference) paired.now.query.count paired.now.query.values.now (whole_energies paired.now.query.bands (bands_in paired.now.query)) low (length scores.old) }
 {
+    let query = paired.query;
     let whole = whole_energies(query.energy, query.bands, query.count);
-    correlations(
-        scores,
-        reference,
-        query.values,
-        &whole[..query.bands],
-        query.count,
-        low,
-    );
+    let scoring = Scoring {
+        reference: paired.reference,
+        query: query.values,
+        whole: &whole[..query.bands],
+        count: query.count,
+    };
+    correlations(scores, &scoring, low);
 }
 
 // The candidate of the places from `low` on that score so.
 fn candidate_of(compared: &Comparison<'_>, scores: &[f64], low: usize) -> Candidate
     requires some { 0 < length scores.now }
-    requires within { low + length scores.now + compared.now.query.count ≤ compared.now.reference.frames + 1 }
-    ensures { result ≡ candidate_of compared.now.reference (bands_in compared.now.fine) (bands_in compared.now.query) compared.now.start low scores.now }
+    requires within { low + length scores.now + compared.now.bands.query.count ≤ compared.now.reference.frames + 1 }
+    ensures { result ≡ candidate_of compared.now.reference (bands_in compared.now.bands.reference) (bands_in compared.now.bands.query) compared.now.start low scores.now }
 {
-    let n = compared.query.count;
+    let n = compared.bands.query.count;
     let best = first_maximum(scores);
     let index = low + best.at;
     let place = real(index) + fraction_at(scores, best.at);
@@ -68,9 +68,9 @@ fn candidate_of(compared: &Comparison<'_>, scores: &[f64], low: usize) -> Candid
     Candidate {
         offset_ms: compared.reference.start_ms + place * compared.reference.hop_ms - compared.start,
         score: best.score,
-        first_half_score: score_part(&compared.fine, &compared.query, index, 0, half),
-        second_half_score: score_part(&compared.fine, &compared.query, index, half, n),
-        recent_score: score_part(&compared.fine, &compared.query, index, recent, n),
+        first_half_score: score_part(&compared.bands, index, 0, half),
+        second_half_score: score_part(&compared.bands, index, half, n),
+        recent_score: score_part(&compared.bands, index, recent, n),
     }
 }
 

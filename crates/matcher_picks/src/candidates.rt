@@ -1,7 +1,7 @@
 // Candidates: their order, the 750 rule and the margin.
 ghost use Rattle.std.specs.Prelude.{◌+◌, ◌<◌, length, [], ◌≡◌};
 ghost use Rattle.arrayvec.specs.ArrayVec.{array_vec_len};
-ghost use Rattle.matcher_spec.specs.Candidates.{crowded, independent, insert, margin_of};
+ghost use Rattle.matcher_spec.specs.Candidates.{crowded, eight_of, independent, insert, margin_of};
 
 use matcher_spec::constants::APART_MS;
 use matcher_spec::limits::CANDIDATES_MOST;
@@ -13,6 +13,15 @@ pub fn nothing_found() -> MatchResult
     ensures { result.items ≡ [] }
 {
     MatchResult::new()
+}
+
+// The candidates found, and blank ones behind the last.
+pub fn eight_of(found: &MatchResult) -> [Candidate; CANDIDATES_MOST]
+    ensures { result ≡ eight_of found.now.items }
+{
+    let mut eight = [Candidate::default(); CANDIDATES_MOST];
+    eight[..found.len()].copy_from_slice(found);
+    eight
 }
 
 // Puts c before the first candidate that scores lower.

@@ -2,12 +2,13 @@
 use Rattle.std.proofs.Common.{◌≡◌, ℕ, Bool, true, false, cond, List, length, ap, ◌∙◌, sym}
 use lib.Ieee.{Float}
 use Rattle.numbers_spec.specs.Arithmetic.{◌⊕◌, ◌⊖◌, ◌⊗◌, real}
+use Rattle.matcher_spec.specs.Candidates.{eight_of}
 use Rattle.matcher_spec.specs.declared.types.Candidate.{Candidate}
 use Rattle.matcher_spec.specs.Index.{Index, accepts_reference, filled, lent, lent_bands, matcher_of}
 use Rattle.matcher_spec.specs.Search.{local_search}
 use Rattle.matcher_spec.specs.Features.{Features, features}
 use Rattle.matcher_replay.specs.Agreement.{answers_in, begin, heard_in, index_digest, local_of, reference_of, reference_sound, reference_times, rejected, searched_in, whole_of, window_sound, window_times}
-use Rattle.matcher_replay.specs.Digests.{padded, with_candidates}
+use Rattle.matcher_replay.specs.Digests.{with_candidates}
 use Rattle.matcher_replay.specs.declared.answers.Answers.{Answers}
 use Rattle.matcher_replay.specs.declared.case.Case.{Case}
 
@@ -23,8 +24,8 @@ module _ (c : Case) (x : Index) where
         ∙ (λ i. local_search (reference_of c) (lent_bands c.bands c.frames x.fine x.fine_energy) w (p i ⊗ c.hop ⊖ begin ⊖ c.reach) (p i ⊗ c.hop ⊖ begin ⊕ c.reach))
 
     pub searched : {index whole_count whole_digest local_count local_digest : ℕ} {whole local : List Candidate} → index ≡ index_digest x
-        → whole ≡ whole_of c x w → whole_count ≡ length whole → whole_digest ≡ with_candidates 0 (padded whole)
-        → local ≡ local_of c x w → local_count ≡ length local → local_digest ≡ with_candidates 0 (padded local)
+        → whole ≡ whole_of c x w → whole_count ≡ length whole → whole_digest ≡ with_candidates 0 (eight_of whole)
+        → local ≡ local_of c x w → local_count ≡ length local → local_digest ≡ with_candidates 0 (eight_of local)
         → ◌≡◌ {A = Answers} (record { filled = 1; index = index; whole_count = whole_count; whole = whole_digest; local_count = local_count; local = local_digest }) (searched_in c x w)
     unfolding searched_in
     searched e w n u l m v =
@@ -32,9 +33,9 @@ module _ (c : Case) (x : Index) where
           filled = 1;
           index = e i;
           whole_count = (n ∙ ap length w) i;
-          whole = (u ∙ ap (λ (r : List Candidate). with_candidates 0 (padded r)) w) i;
+          whole = (u ∙ ap (λ (r : List Candidate). with_candidates 0 (eight_of r)) w) i;
           local_count = (m ∙ ap length l) i;
-          local = (v ∙ ap (λ (r : List Candidate). with_candidates 0 (padded r)) l) i;
+          local = (v ∙ ap (λ (r : List Candidate). with_candidates 0 (eight_of r)) l) i;
         }
 
   pub heard : {times values : List Float} {r : Answers} → times ≡ window_times c → values ≡ window_sound c

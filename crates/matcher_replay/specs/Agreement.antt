@@ -2,6 +2,7 @@
 use Rattle.std.specs.Prelude.{ℕ, ◌*◌, Bool, false, cond, ◌&&◌, List, length, replicate, ◌==◌, from_bits, Float}
 use Rattle.std.specs.Float.{binary64}
 use Rattle.numbers_spec.specs.Arithmetic.{◌⊕◌, ◌⊖◌, ◌⊗◌, zero⁺, real}
+use Rattle.matcher_spec.specs.Candidates.{eight_of}
 use Rattle.matcher_spec.specs.declared.types.Candidate.{Candidate}
 use Rattle.matcher_spec.specs.Index.{Index, accepts_reference, filled, lent, lent_bands, lent_matcher, matcher_of}
 use Rattle.matcher_spec.specs.Search.{local_search, whole_search}
@@ -9,7 +10,7 @@ use Rattle.matcher_spec.specs.Features.{Features, features}
 use Rattle.matcher_spec.specs.declared.types.Reference.{Reference}
 use Rattle.hexadecimal.specs.Hexadecimal.{spaced, word_at}
 use Rattle.matcher_replay.specs.Cases.{case_of, coarse_room, coarse_energy_room, fine_room, fine_energy_room, is_small}
-use Rattle.matcher_replay.specs.Digests.{padded, with_candidates, with_floats}
+use Rattle.matcher_replay.specs.Digests.{with_candidates, with_floats}
 use Rattle.matcher_replay.specs.Sounds.{reference_values, window_values}
 use Rattle.replays.specs.Lines as lists
 use Rattle.replays.specs.Sounds.{times_from}
@@ -46,9 +47,9 @@ module _ (c : Case) (index : Index) (window : Features) where
         filled = 1;
         index = index_digest index;
         whole_count = length whole_of;
-        whole = with_candidates 0 (padded whole_of);
+        whole = with_candidates 0 (eight_of whole_of);
         local_count = length local_of;
-        local = with_candidates 0 (padded local_of);
+        local = with_candidates 0 (eight_of local_of);
       }
 
 -- ---- a case

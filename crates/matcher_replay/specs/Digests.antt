@@ -1,9 +1,7 @@
 -- One word for many floats: the bits of all of them, in order. Definitions only.
-use Rattle.std.specs.Prelude.{ℕ, ◌-◌, List, [], ◌∷◌, ◌++◌, length, replicate, to_bits, Float}
+use Rattle.std.specs.Prelude.{ℕ, List, [], ◌∷◌, to_bits, Float}
 use Rattle.std.specs.List.{fold}
 use Rattle.std.specs.Float.{binary64}
-use Rattle.matcher_spec.specs.Candidates.{blank}
-use Rattle.matcher_spec.specs.Limits.{candidates_most}
 use Rattle.matcher_spec.specs.declared.types.Candidate.{Candidate}
 use Rattle.replays.specs.Digests.{with_all}
 
@@ -17,7 +15,3 @@ with_candidate word c = with_floats word (c.offset_ms ∷ c.score ∷ c.first_ha
 
 abbrev pub with_candidates : ℕ → List Candidate → ℕ
 with_candidates = fold with_candidate
-
--- The candidates found and blank ones behind the last, 8 in all.
-abbrev pub padded : List Candidate → List Candidate
-padded found = found ++ replicate (candidates_most - length found) blank

@@ -7,6 +7,7 @@ use crate::case::{CASE_BANDS, CASE_FRAMES, CASE_WINDOW, Case};
 use crate::{digest, sound};
 use hexadecimal::word_at;
 use matcher::index::fill_index;
+use matcher::lent::lent_matcher;
 use matcher::local::local_search;
 use matcher::whole::whole_search;
 use matcher_spec::lent::{Features, Index};
@@ -152,11 +153,11 @@ fn search_within(
         start_ms: 0.0,
         hop_ms: case.hop,
     };
-    let whole = whole_search(index, reference, window, work32, work64);
+    let matcher = lent_matcher(reference, index);
+    let whole = whole_search(&matcher, window, work32, work64);
     let offset = numbers::float::real(case.from) * case.hop - BEGIN;
     let local = local_search(
-        index,
-        reference,
+        &matcher.fine,
         window,
         offset - case.reach,
         offset + case.reach,

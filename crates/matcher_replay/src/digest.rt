@@ -1,8 +1,9 @@
 // One word for the candidates of a search.
 ghost use Rattle.std.specs.Prelude.{◌≡◌};
-ghost use Rattle.matcher_replay.specs.Digests.{padded, with_candidate, with_candidates};
+ghost use Rattle.matcher_spec.specs.Candidates.{eight_of};
+ghost use Rattle.matcher_replay.specs.Digests.{with_candidate, with_candidates};
 
-use matcher_spec::limits::CANDIDATES_MOST;
+use matcher_picks::candidates::eight_of;
 use matcher_spec::types::{Candidate, MatchResult};
 use replays::digest::with_all;
 
@@ -23,20 +24,11 @@ fn with_candidate(word: u64, c: Candidate) -> u64
     )
 }
 
-// The candidates found, and blank ones behind the last.
-fn padded(found: &MatchResult) -> [Candidate; CANDIDATES_MOST]
-    ensures { result ≡ padded found.now.items }
-{
-    let mut eight = [Candidate::default(); CANDIDATES_MOST];
-    eight[..found.len()].copy_from_slice(found);
-    eight
-}
-
 // Those of all that a search found, the blank ones behind the last too.
 pub fn of_candidates(found: &MatchResult) -> u64
-    ensures { result ≡ with_candidates 0 (padded found.now.items) }
+    ensures { result ≡ with_candidates 0 (eight_of found.now.items) }
 {
-    padded(found)
+    eight_of(found)
         .iter()
         .fold(0, |word, c| with_candidate(word, *c))
 }

@@ -35,6 +35,7 @@ impl Rows {
 
     // Adds what a band adds to the scores of a block of places, the first of which is `at`. It may
     // work on more places than there are scores, so that they are a whole number of tiles.
+    // Kept: `some_scores`, since a block of no places may lie behind the reference's end.
     pub fn add_block(&mut self, scores: &mut [f64], pair: &Pair<'_>, at: usize)
         requires some_scores { 0 < length scores.old }
         requires one_block { length scores.old ≤ block }

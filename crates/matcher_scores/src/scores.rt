@@ -11,76 +11,62 @@ ghost use Rattle.numbers_spec.specs.Arithmetic.{◌⊕◌, ◌⊗◌};
 use crate::bands::{Band, Pair, nth_band};
 use crate::blocks::{BLOCK, Rows};
 use matcher_dots::dot::dot_product;
-use matcher_spec::lent::Bands;
+use matcher_spec::lent::{Bands, Paired};
 use numbers::float::{at_least, real, widen};
 use numbers::root::root;
 
-// The scores of as many places as `scores` has, from `low` on. Each band of the query has `count`
-// values; `whole` are its whole energies.
-pub fn correlations(
-    scores: &mut [f64],
-    reference: &Bands<'_>,
-    query: &[f32],
-    whole: &[f64],
-    count: usize,
-    low: usize,
-)
-    requires count_in_bounds_1 { reference.now.bands * count ≤ length query.now }
-    requires count_in_bounds_2 { reference.now.bands ≤ length whole.now }
-    requires count_bound { low + length scores.old + count ≤ reference.now.count + 1 }
-    ensures { scores.new ≡ correlations reference.now.bands (bands_in reference.now) count query.now whole.now low (length scores.old) }
+// What the scores of places are made of: a reference, and as many bands of a query, with `count`
+// values each and their whole energies. Both slices of the query may be longer.
+#[derive(Clone, Copy)]
+pub struct Scoring<'a> {
+    pub reference: Bands<'a>,
+    pub query: &'a [f32],
+    pub whole: &'a [f64],
+    pub count: usize,
+    ghost query_room: { reference.bands * count ≤ length query.now },
+    ghost whole_room: { reference.bands ≤ length whole.now },
+}
+
+// The scores of as many places as `scores` has, from `low` on.
+pub fn correlations(scores: &mut [f64], scoring: &Scoring<'_>, low: usize)
+    requires { low + length scores.old + scoring.now.count ≤ scoring.now.reference.count + 1 }
+    ensures { scores.new ≡ correlations scoring.now.reference.bands (bands_in scoring.now.reference) scoring.now.count scoring.now.query.now scoring.now.whole.now low (length scores.old) }
 {
-    sum_bands(scores, reference, query, whole, count, low);
-    scale(scores, 1.0 / real(reference.bands));
+    sum_bands(scores, scoring, low);
+    scale(scores, 1.0 / real(scoring.reference.bands));
 }
 
 // The sum over the bands at each place. The working rows of a block are made once and not for each
 // band.
-fn sum_bands<'a>(
-    scores: &mut [f64],
-    reference: &Bands<'a>,
-    query: &'a [f32],
-    whole: &[f64],
-    count: usize,
-    low: usize,
-)
-    requires count_in_bounds_1 { reference.now.bands * count ≤ length query.now }
-    requires count_in_bounds_2 { reference.now.bands ≤ length whole.now }
-    requires count_bound { low + length scores.old + count ≤ reference.now.count + 1 }
-    ensures { scores.new ≡ tabulate (λ (i : ℕ). sum_to (term_at (bands_in reference.now) count query.now whole.now (low + i)) reference.now.bands) (length scores.old) }
+fn sum_bands(scores: &mut [f64], scoring: &Scoring<'_>, low: usize)
+    requires { low + length scores.old + scoring.now.count ≤ scoring.now.reference.count + 1 }
+    ensures { scores.new ≡ tabulate (λ (i : ℕ). sum_to (term_at (bands_in scoring.now.reference) scoring.now.count scoring.now.query.now scoring.now.whole.now (low + i)) scoring.now.reference.bands) (length scores.old) }
 {
     let mut rows = Rows::new();
     scores.fill(0.0);
-    for b in 0..reference.bands {
-        let pair = nth_pair(reference, query, whole, count, b);
+    for b in 0..scoring.reference.bands {
+        let pair = nth_pair(scoring, b);
         add_band(scores, &pair, low, &mut rows);
     }
 }
 
 // Band b of the reference and of the query.
-fn nth_pair<'a>(
-    reference: &Bands<'a>,
-    query: &'a [f32],
-    whole: &[f64],
-    count: usize,
-    b: usize,
-) -> Pair<'a>
-    requires b_in_bounds { b < reference.now.bands }
-    requires count_in_bounds_1 { reference.now.bands * count ≤ length query.now }
-    requires count_in_bounds_2 { reference.now.bands ≤ length whole.now }
-    ensures term { (start : ℕ) → term_of result start ≡ term_at (bands_in reference.now) count query.now whole.now start b }
-    ensures frames { length result.reference.now ≡ reference.now.count }
-    ensures count { length result.query.now ≡ count }
+fn nth_pair<'a>(scoring: &Scoring<'a>, b: usize) -> Pair<'a>
+    requires { b < scoring.now.reference.bands }
+    ensures term { (start : ℕ) → term_of result start ≡ term_at (bands_in scoring.now.reference) scoring.now.count scoring.now.query.now scoring.now.whole.now start b }
+    ensures frames { length result.reference.now ≡ scoring.now.reference.count }
+    ensures count { length result.query.now ≡ scoring.now.count }
 {
-    let band = nth_band(reference, b);
+    let band = nth_band(&scoring.reference, b);
+    let count = scoring.count;
     let at = b * count;
     let floor = variance_floor(count);
     Pair {
         reference: band.values,
         energy: band.energy,
-        query: &query[at..at + count],
+        query: &scoring.query[at..at + count],
         floor,
-        whole: at_least(floor, whole[b]),
+        whole: at_least(floor, scoring.whole[b]),
     }
 }
 
@@ -109,31 +95,24 @@ fn scale(scores: &mut [f64], by: f64)
 // The score of the query's part from `low` up to `high`, where the query stands at the place
 // `start`.
 #[tactic(auto, unfolding(matcher_spec::specs::Scores::score_part, numbers_spec::specs::Rows::sum_to))]
-pub fn score_part(
-    reference: &Bands<'_>,
-    query: &Bands<'_>,
-    start: usize,
-    low: usize,
-    high: usize,
-) -> f64
-    requires same_bands { query.now.bands ≡ reference.now.bands }
+pub fn score_part(paired: &Paired<'_>, start: usize, low: usize, high: usize) -> f64
     requires low_le_high_1 { low ≤ high }
-    requires low_le_high_2 { high ≤ query.now.count }
-    requires low_le_high_3 { start + query.now.count ≤ reference.now.count }
-    ensures { result ≡ score_part reference.now.bands (bands_in reference.now) (bands_in query.now) start low high }
+    requires low_le_high_2 { high ≤ paired.now.query.count }
+    requires low_le_high_3 { start + paired.now.query.count ≤ paired.now.reference.count }
+    ensures { result ≡ score_part paired.now.reference.bands (bands_in paired.now.reference) (bands_in paired.now.query) start low high }
 {
     let mut score = 0.0f64;
-    for b in 0..reference.bands {
+    for b in 0..paired.reference.bands {
         score = score
             + part_term(
-                &nth_band(reference, b),
-                &nth_band(query, b),
+                &nth_band(&paired.reference, b),
+                &nth_band(&paired.query, b),
                 start,
                 low,
                 high,
             );
     }
-    score / real(reference.bands)
+    score / real(paired.reference.bands)
 }
 
 // What a band adds to the score of the query's part from `low` up to `high`.

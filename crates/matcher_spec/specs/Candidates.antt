@@ -1,9 +1,10 @@
 -- Candidates: order, the 750 rule and the margin (document 01, Matcher; matcher.rs, `match_query`, `MatchResult`). Definitions only.
-use Rattle.std.specs.Prelude.{Bool, cond, List, [], ◌∷◌, ◌++◌, Float}
+use Rattle.std.specs.Prelude.{◌-◌, Bool, cond, List, [], ◌∷◌, ◌++◌, length, replicate, Float}
 use Rattle.std.specs.Float.{binary64}
 use Rattle.std.specs.Float.Ieee.{lt, of_bits}
 use Rattle.std.specs.List.{list_any}
 use Rattle.numbers_spec.specs.Arithmetic.{◌⊖◌, zero⁺, absolute}
+use Rattle.matcher_spec.specs.Limits.{candidates_most}
 use Rattle.matcher_spec.specs.declared.types.Candidate.{Candidate}
 
 -- ---- stable order, highest score first
@@ -40,6 +41,10 @@ independent = independent_from []
 -- What stands where a list has no candidate.
 abbrev pub blank : Candidate
 blank = record { offset_ms = zero⁺; score = zero⁺; first_half_score = zero⁺; second_half_score = zero⁺; recent_score = zero⁺ }
+
+-- The candidates found and blank ones behind the last, 8 in all.
+abbrev pub eight_of : List Candidate → List Candidate
+eight_of found = found ++ replicate (candidates_most - length found) blank
 
 -- ---- the margin
 -- The margin: the best score less the second; a lone candidate's is its own score, none gives 0.

@@ -5,4 +5,4 @@ use Rattle.matcher_filling.proofs.FillLaws.{searchable_room}
 use Rattle.matcher.proofs.fronts.query_start.Goals as goal
 
 pub bounds-window-inside-radius : goal.bounds-window-inside-radius
-bounds-window-inside-radius c = omega (arith, c.radius.ensures, ap (λ (w : Features). length w.times) c.window.view_is, searchable_room c.args.reference c.args.window.now c.requires.searchable)
+bounds-window-inside-radius c = omega (arith, c.radius.ensures, ap (λ (w : Features). length w.times) c.window.view_is, searchable_room c.args.fine.now.reference c.args.window.now c.requires)

@@ -16,10 +16,10 @@ loop-peak-preserved c =
       | then-low-high w ↦ (
         rw w.found-is (omega (arith, w.insert_by_score.ensures.len)),
         rw (w.found-is, w.insert_by_score.ensures.items, w.best_candidate.ensures, ← same)
-            (peak_in x.reference (bands_in x.fine) (bands_in x.query) x.start l.found.items peaks l.peak-index c.loop-peak-test.true c.saturating_sub-low.ensures c.min-high.ensures w.if-low-high.true ∙ before),
+            (peak_in x.reference (bands_in x.bands.reference) (bands_in x.bands.query) x.start l.found.items peaks l.peak-index c.loop-peak-test.true c.saturating_sub-low.ensures c.min-high.ensures w.if-low-high.true ∙ before),
       )
       | else-low-high w ↦ (
         rw w.found-is (omega arith),
-        rw (w.found-is, ← same) (peak_out x.reference (bands_in x.fine) (bands_in x.query) x.start l.found.items peaks l.peak-index c.loop-peak-test.true c.saturating_sub-low.ensures c.min-high.ensures w.if-low-high.false ∙ before),
+        rw (w.found-is, ← same) (peak_out x.reference (bands_in x.bands.reference) (bands_in x.bands.query) x.start l.found.items peaks l.peak-index c.loop-peak-test.true c.saturating_sub-low.ensures c.min-high.ensures w.if-low-high.false ∙ before),
       )
     ]

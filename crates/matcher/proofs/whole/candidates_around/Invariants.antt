@@ -7,5 +7,5 @@ use Rattle.matcher.proofs.whole.candidates_around.Given as goal
 
 abbrev pub invariant-loop-peak : goal.invariant-loop-peak
 invariant-loop-peak l =
-    let around = candidates_at l.compared.reference (bands_in l.compared.fine) (bands_in l.compared.query) l.compared.start in
+    let around = candidates_at l.compared.reference (bands_in l.compared.bands.reference) (bands_in l.compared.bands.query) l.compared.start in
     (length l.found.items ≤ l.peak-index) × (sort_into l.found.items (around (drop l.peak-index l.picked.items)) ≡ sorted (around l.picked.items))

@@ -5,7 +5,7 @@ pub returns : goal.returns
 unfolding candidate_of
 returns c =
     simp (
-      ← c.args.compared.now.same_bands.0,
+      ← c.args.compared.now.same_bands,
       ← c.first_maximum-best.ensures.at_value,
       ← c.first_maximum-best.ensures.score_value,
       ← c.count.ensures,

@@ -14,5 +14,6 @@ pub returns : goal.returns
 unfolding correlations correlation_at of_bits
 returns c =
     let a = c.args in
-    let sum : ℕ → Float = λ i. sum_to (term_at (bands_in a.reference.now) a.count a.query.now a.whole.now (a.low + i)) a.reference.now.bands in
+    let x = a.scoring.now in
+    let sum : ℕ → Float = λ i. sum_to (term_at (bands_in x.reference) x.count x.query.now x.whole.now (a.low + i)) x.reference.bands in
     c.scale.ensures ∙ tabulate_then sum (λ (i : ℕ) (s : Float). s ⊗ (one ⊘ c.real.result)) nan (length a.scores.now) c.sum_bands.ensures ∙ simp c.real.ensures

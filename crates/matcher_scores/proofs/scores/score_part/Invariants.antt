@@ -6,4 +6,4 @@ use Rattle.matcher_spec.specs.Scores.{part_at}
 use Rattle.matcher_scores.proofs.scores.score_part.Given as goal
 
 abbrev pub invariant-loop-b : goal.invariant-loop-b
-invariant-loop-b l = l.score ≡ sum_to (part_at (bands_in l.reference) (bands_in l.query) l.start l.low l.high) l.b
+invariant-loop-b l = l.score ≡ sum_to (part_at (bands_in l.paired.reference) (bands_in l.paired.query) l.start l.low l.high) l.b

@@ -8,4 +8,4 @@ use Rattle.matcher_spec.specs.Scores.{term_at}
 use Rattle.matcher_scores.proofs.scores.sum_bands.Given as goal
 
 abbrev pub invariant-loop-b : goal.invariant-loop-b
-invariant-loop-b l = l.scores ≡ tabulate (λ (i : ℕ). sum_to (term_at (bands_in l.reference) l.count l.query l.whole (l.low + i)) l.b) (length l.initial.scores)
+invariant-loop-b l = l.scores ≡ tabulate (λ (i : ℕ). sum_to (term_at (bands_in l.scoring.reference) l.scoring.count l.scoring.query.now l.scoring.whole.now (l.low + i)) l.b) (length l.initial.scores)

@@ -4,7 +4,7 @@ use Rattle.std.proofs.lemmas.List.{drop-replicate}
 use lib.Ieee.{of_bits}
 use Rattle.matcher_spec.specs.Candidates.{blank}
 use Rattle.matcher_spec.specs.declared.types.Candidate.{Candidate}
-use Rattle.compare_exports.proofs.matcher_calls.eight_of.Goals as goal
+use Rattle.matcher_picks.proofs.candidates.eight_of.Goals as goal
 
 pub returns : goal.returns
 unfolding of_bits
