@@ -2,7 +2,7 @@
 // compare/ makes the same ones.
 ghost use Rattle.std.specs.Prelude.{◌<◌};
 
-use replays::sound::value_at;
+use replays::sound::{fill_bands, value_at};
 
 // What is heard of a reference: frame 0 of the window is the reference's frame `from`. Before the
 // window's frame `since` and from `until` on something else is heard, and beside the reference
@@ -15,53 +15,59 @@ pub struct Heard {
     pub noise: u64,
 }
 
-// What a band has at a frame of the reference, which repeats every `period` frames: a level that
-// lasts four frames, since whole searches look at averages first, and one of the frame's own.
-fn sound_at(seed: u64, period: usize, band: usize, frame: usize) -> f32
-    requires { 0 < period }
-{
-    let place = frame % period % 4096;
-    let row = band % 64 * 8192;
-    let level = value_at(seed, (row + place / 4) as u64);
-    level * 0.75 + value_at(seed, (row + 4096 + place) as u64) * 0.25
+// The sound of a reference, which repeats every `period` frames.
+#[derive(Clone, Copy)]
+pub struct Sound {
+    seed: u64,
+    period: usize,
+    ghost repeats: { 0 < period },
 }
 
-// What a window hears in a band at its frame.
-fn heard_at(seed: u64, period: usize, heard: Heard, band: usize, frame: usize) -> f32
-    requires { 0 < period }
-{
-    let other = sound_at(
-        seed % 65536 + 1 + heard.noise / 64 % 65536,
-        4096,
-        band,
-        frame,
-    );
-    if frame < heard.since || frame >= heard.until {
-        return other;
+impl Sound {
+    // A period of no frames counts as one of 1.
+    pub fn new(seed: u64, period: usize) -> Sound {
+        Sound {
+            seed,
+            period: period.max(1),
+        }
     }
-    let part = (heard.noise % 64) as f32 / 64.0;
-    let place = heard.from % 65536 + frame % 65536;
-    sound_at(seed, period, band, place) * (1.0 - part) + other * part
-}
 
-// The reference, band after band: element i is frame i % n of band i / n.
-// Kept: three lines over this crate's sound; matcher_replay's fills with another.
-pub fn fill_reference(values: &mut [f32], seed: u64, period: usize, n: usize)
-    requires repeats { 0 < period }
-    requires some { 0 < n }
-{
-    for i in 0..values.len() {
-        values[i] = sound_at(seed, period, i / n, i % n);
+    // What a band has at a frame: a level that lasts four frames, since whole searches look at
+    // averages first, and one of the frame's own.
+    fn at(self, band: usize, frame: usize) -> f32 {
+        let place = frame % self.period % 4096;
+        let row = band % 64 * 8192;
+        let level = value_at(self.seed, (row + place / 4) as u64);
+        level * 0.75 + value_at(self.seed, (row + 4096 + place) as u64) * 0.25
     }
-}
 
-// The window, band after band.
-pub fn fill_window(values: &mut [f32], seed: u64, period: usize, heard: Heard, n: usize)
-    requires repeats { 0 < period }
-    requires some { 0 < n }
-{
-    for i in 0..values.len() {
-        values[i] = heard_at(seed, period, heard, i / n, i % n);
+    // What a window hears in a band at its frame.
+    fn heard_at(self, heard: Heard, band: usize, frame: usize) -> f32 {
+        let beside = Sound {
+            seed: self.seed % 65536 + 1 + heard.noise / 64 % 65536,
+            period: 4096,
+        };
+        let other = beside.at(band, frame);
+        if frame < heard.since || frame >= heard.until {
+            return other;
+        }
+        let part = (heard.noise % 64) as f32 / 64.0;
+        let place = heard.from % 65536 + frame % 65536;
+        self.at(band, place) * (1.0 - part) + other * part
+    }
+
+    // A reference of n frames, band after band. None count as 1.
+    pub fn fill_reference(self, values: &mut [f32], n: usize) {
+        fill_bands(values, n.max(1), |band, frame| self.at(band, frame));
+    }
+
+    // A window of n frames, band after band. None count as 1.
+    pub fn fill_window(self, values: &mut [f32], heard: Heard, n: usize) {
+        fill_bands(
+            values,
+            n.max(1),
+            |band, frame| self.heard_at(heard, band, frame),
+        );
     }
 }
 

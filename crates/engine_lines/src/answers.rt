@@ -1,7 +1,8 @@
 // What is answered to a line, and whether the line says the same.
-ghost use Rattle.std.specs.Prelude.{length, ◌≡◌};
-ghost use Rattle.engine_lines.specs.Lines.{agreement_with, in_all, line_bytes};
+ghost use Rattle.std.specs.Prelude.{◌≡◌};
+ghost use Rattle.engine_lines.specs.Lines.{agreement_with, in_all};
 
+use crate::line::LINE;
 use hexadecimal::word_at;
 
 // The answer's number, a digest of the state after it, and one of what it shows: of an opening the
@@ -14,6 +15,7 @@ pub struct Answers {
 }
 
 // In what a line and the engine agree.
+// Kept: three truth values of one line, each of which is written; none says that another is missing.
 #[derive(Clone, Copy)]
 pub struct Agreement {
     pub answer: bool,
@@ -24,8 +26,7 @@ pub struct Agreement {
 impl Agreement {
     // Of a line, with what is answered to it.
     #[tactic(auto, unfolding(crate::specs::Lines::agreement_with))]
-    pub fn with(line: &[u8], found: Answers) -> Agreement
-        requires { length line.now ≡ line_bytes }
+    pub fn with(line: &[u8; LINE], found: Answers) -> Agreement
         ensures { result ≡ agreement_with line.now found }
     {
         Agreement {

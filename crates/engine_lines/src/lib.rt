@@ -2,6 +2,7 @@
 #![tactic(auto)]
 
 pub mod answers;
+pub mod host;
 pub mod line;
 pub mod opening;
 pub mod submission;

@@ -1,6 +1,6 @@
 // The words of a line, as counts and as floats.
-ghost use Rattle.std.specs.Prelude.{◌<◌, length, ◌≡◌};
-ghost use Rattle.engine_lines.specs.Lines.{line_bytes, line_words};
+ghost use Rattle.std.specs.Prelude.{◌<◌};
+ghost use Rattle.engine_lines.specs.Lines.{line_words};
 
 use hexadecimal::{SPACED, word_at};
 use std::num::f64_from_bits_with_nan;
@@ -8,14 +8,14 @@ use std::num::f64_from_bits_with_nan;
 // The bytes of a line: 15 words.
 pub const LINE: usize = 15 * SPACED;
 
-pub fn count_at(line: &[u8], k: usize) -> usize
-    requires { (length line.now ≡ line_bytes) × (k < line_words) }
+pub fn count_at(line: &[u8; LINE], k: usize) -> usize
+    requires { k < line_words }
 {
     word_at(line, k) as usize
 }
 
-pub fn float_at(line: &[u8], k: usize) -> f64
-    requires { (length line.now ≡ line_bytes) × (k < line_words) }
+pub fn float_at(line: &[u8; LINE], k: usize) -> f64
+    requires { k < line_words }
 {
     f64_from_bits_with_nan(word_at(line, k))
 }

@@ -21,7 +21,8 @@ fn main(rt: HostRuntime) -> io::Result<()> {
     let size = read_list(&mut rt.stdin(), &mut list)?;
     let list = &list[..size];
     let differ = replay(&mut Sessions::new(), out, list);
-    let sessions = list.chunks_exact(LINE).filter(|line| opens(line)).count();
-    let submissions = (size / LINE).saturating_sub(sessions);
+    let (lines, _) = list.as_chunks::<LINE>();
+    let sessions = lines.iter().filter(|line| opens(line)).count();
+    let submissions = lines.len().saturating_sub(sessions);
     println!(out; "{sessions} sessions, {submissions} submissions replayed, {differ} differ")
 }

@@ -1,27 +1,28 @@
 -- What is answered to a case, from what its parts are known to be. Assumes nothing.
 use Rattle.std.proofs.Common.{◌≡◌, ℕ, Bool, true, false, cond, List, length, ap, ◌∙◌, sym}
 use lib.Ieee.{Float}
-use Rattle.numbers_spec.specs.Arithmetic.{◌⊕◌, ◌⊖◌, ◌⊗◌, real}
+use Rattle.numbers_spec.specs.Arithmetic.{◌⊕◌, ◌⊖◌}
 use Rattle.matcher_spec.specs.Candidates.{eight_of}
 use Rattle.matcher_spec.specs.declared.types.Candidate.{Candidate}
-use Rattle.matcher_spec.specs.Index.{Index, accepts_reference, filled, lent, lent_bands, matcher_of}
-use Rattle.matcher_spec.specs.Search.{local_search}
+use Rattle.matcher_spec.specs.Index.{Index, Matcher, accepts_reference, filled, lent, lent_matcher, matcher_of}
+use Rattle.matcher_spec.specs.Search.{local_search, whole_search}
 use Rattle.matcher_spec.specs.Features.{Features, features}
-use Rattle.matcher_replay.specs.Agreement.{answers_in, begin, heard_in, index_digest, local_of, reference_of, reference_sound, reference_times, rejected, searched_in, whole_of, window_sound, window_times}
+use Rattle.matcher_replay.specs.Agreement.{answers_in, heard_in, index_digest, local_of, offset_of, reference_of, reference_sound, reference_times, rejected, searched_in, whole_of, window_sound, window_times}
 use Rattle.matcher_replay.specs.Digests.{with_candidates}
 use Rattle.matcher_replay.specs.declared.answers.Answers.{Answers}
 use Rattle.matcher_replay.specs.declared.case.Case.{Case}
 
 module _ (c : Case) (x : Index) where
   module _ (w : Features) where
-    -- the local search, by what its caller took for the place
-    pub located : {place : Float} {l : List Candidate} → place ≡ real c.from
-        → l ≡ local_search (reference_of c) (lent_bands c.bands c.frames x.fine x.fine_energy) w (place ⊗ c.hop ⊖ begin ⊖ c.reach) (place ⊗ c.hop ⊖ begin ⊕ c.reach)
-        → l ≡ local_of c x w
+    -- the searches of the matcher that the index holds
+    pub whole_is : {m : Matcher} {l : List Candidate} → m ≡ lent_matcher (reference_of c) x → l ≡ whole_search m w → l ≡ whole_of c x w
+    unfolding whole_of
+    whole_is m e = e ∙ (λ i. whole_search (m i) w)
+
+    pub local_is : {m : Matcher} {offset : Float} {l : List Candidate} → m ≡ lent_matcher (reference_of c) x → offset ≡ offset_of c
+        → l ≡ local_search m.reference m.fine w (offset ⊖ c.reach) (offset ⊕ c.reach) → l ≡ local_of c x w
     unfolding local_of
-    located p e =
-        e
-        ∙ (λ i. local_search (reference_of c) (lent_bands c.bands c.frames x.fine x.fine_energy) w (p i ⊗ c.hop ⊖ begin ⊖ c.reach) (p i ⊗ c.hop ⊖ begin ⊕ c.reach))
+    local_is m o e = e ∙ (λ i. local_search (m i).reference (m i).fine w (o i ⊖ c.reach) (o i ⊕ c.reach))
 
     pub searched : {index whole_count whole_digest local_count local_digest : ℕ} {whole local : List Candidate} → index ≡ index_digest x
         → whole ≡ whole_of c x w → whole_count ≡ length whole → whole_digest ≡ with_candidates 0 (eight_of whole)

@@ -1,23 +1,10 @@
 -- What a case within the limits gives: its numbers' bounds, and that its bands fit the arrays. Assumes nothing.
-use Rattle.std.proofs.Common.{◌≡◌, ℕ, ◌+◌, ◌*◌, ◌/◌, ◌<◌, ◌≤◌, true, mul-le-mul, arith, ltb-true, leb-true}
-use Rattle.matcher_spec.specs.Centring.{wide_hop}
+use Rattle.std.proofs.Common.{◌≡◌, ◌*◌, ◌≤◌, true, mul-le-mul, ltb-true, leb-true}
 use Rattle.matcher_spec.proofs.Cases.{both}
-use Rattle.matcher_replay.specs.Cases.{case_bands, case_frames, case_window, coarse_room, coarse_energy_room, fine_room, fine_energy_room, is_small, seeds_end, window_room}
+use Rattle.matcher_replay.specs.Cases.{Limits, fine_room, is_small, window_room}
 use Rattle.matcher_replay.specs.declared.case.Case.{Case}
 
-pub record Limits (c : Case) : Type 0 where
-  pub seed : c.seed < seeds_end
-  pub wide : wide_hop c.hop ≡ true
-  pub period : 0 < c.period
-  pub some : 0 < c.bands
-  pub bands : c.bands ≤ case_bands
-  pub long : 0 < c.frames
-  pub frames : c.frames ≤ case_frames
-  pub heard : 0 < c.window
-  pub window : c.window ≤ case_window
-  pub from : c.from ≤ case_frames
-
-limits : (c : Case) → is_small c ≡ true → Limits c
+pub limits : (c : Case) → is_small c ≡ true → Limits c
 unfolding is_small
 limits c h =
     let a = both _ _ h in
@@ -42,24 +29,9 @@ limits c h =
       from = leb-true _ _ a.1;
     }
 
--- What b bands of n values need: b * n values, and one energy more each.
-pub record Sizes (b n values energies : ℕ) : Type 0 where
-  pub all : b * n ≤ values
-  pub sums : b * (n + 1) ≤ energies
+-- the bands of the reference and of the window fit their arrays
+pub reference_fits : {c : Case} → Limits c → c.bands * c.frames ≤ fine_room
+reference_fits l = mul-le-mul l.bands l.frames
 
-sizes : {b n : ℕ} (m : ℕ) → b ≤ case_bands → n ≤ m → Sizes b n (case_bands * m) (case_bands * (m + 1))
-sizes {b} {n} m h k =
-    let l : n + 1 ≤ m + 1 = omega arith in
-    record { all = mul-le-mul h k; sums = mul-le-mul h l }
-
-pub record Small (c : Case) : Type 0 where
-  pub limit : Limits c
-  pub fine : Sizes c.bands c.frames fine_room fine_energy_room
-  pub coarse : Sizes c.bands (c.frames / 4) coarse_room coarse_energy_room
-  pub query : Sizes c.bands c.window window_room (case_bands * (case_window + 1))
-
-pub small : (c : Case) → is_small c ≡ true → Small c
-small c h =
-    let l = limits c h in
-    let q : c.frames / 4 ≤ case_frames / 4 = omega arith in
-    record { limit = l; fine = sizes case_frames l.bands l.frames; coarse = sizes (case_frames / 4) l.bands q; query = sizes case_window l.bands l.window }
+pub window_fits : {c : Case} → Limits c → c.bands * c.window ≤ window_room
+window_fits l = mul-le-mul l.bands l.window

@@ -1,8 +1,9 @@
 -- The case that a line says, and which cases this program takes. Definitions only.
-use Rattle.std.specs.Prelude.{◌≡◌, ℕ, ◌+◌, ◌*◌, ◌/◌, Bool, cond, ◌&&◌, List, length, from_bits, nat_le, nat_lt, Float}
+use Rattle.std.specs.Prelude.{◌≡◌, ℕ, ◌+◌, ◌*◌, ◌/◌, ◌<◌, ◌≤◌, Bool, true, cond, ◌&&◌, List, length, from_bits, nat_le, nat_lt, Float}
 use Rattle.std.specs.Float.{binary64}
 use Rattle.std.specs.Float.Ieee.{le}
 use Rattle.numbers_spec.specs.Arithmetic.{one, zero⁺}
+use Rattle.matcher_spec.specs.Centring.{wide_hop}
 use Rattle.matcher_spec.specs.Index.{Index}
 use Rattle.hexadecimal.specs.Hexadecimal.{word_at}
 use Rattle.matcher_replay.specs.declared.case.Case.{Case}
@@ -63,6 +64,19 @@ is_small c =
     && nat_lt 0 c.window
     && nat_le c.window case_window
     && nat_le c.from case_frames
+
+-- What that says of its numbers.
+pub record Limits (c : Case) : Type 0 where
+  pub seed : c.seed < seeds_end
+  pub wide : wide_hop c.hop ≡ true
+  pub period : 0 < c.period
+  pub some : 0 < c.bands
+  pub bands : c.bands ≤ case_bands
+  pub long : 0 < c.frames
+  pub frames : c.frames ≤ case_frames
+  pub heard : 0 < c.window
+  pub window : c.window ≤ case_window
+  pub from : c.from ≤ case_frames
 
 -- ---- a line's first eight words
 -- The float of a pattern up to plus infinity's, and 0 of any other.

@@ -1,17 +1,17 @@
 // What the matcher answers to a case, and whether a line says so.
-ghost use Rattle.std.specs.Prelude.{◌≡◌, ◌*◌, true, length};
-ghost use Rattle.matcher_replay.specs.Agreement.{answers_of, heard_in, index_digest, line_bytes, rejected, says_of, searched_in};
-ghost use Rattle.matcher_replay.specs.Cases.{FitsArrays, is_small, work32_room, work64_room};
+ghost use Rattle.std.specs.Prelude.{◌≡◌};
+ghost use Rattle.matcher_replay.specs.Agreement.{answers_of, heard_in, index_digest, rejected, says_of};
+ghost use Rattle.matcher_replay.specs.Cases.{FitsArrays};
 
-use crate::case::{CASE_BANDS, CASE_FRAMES, CASE_WINDOW, Case};
-use crate::{digest, sound};
+use crate::case::{CASE_BANDS, CASE_FRAMES, CASE_WINDOW, LINE};
+use crate::digest;
+use crate::small::{BEGIN, SmallCase};
 use hexadecimal::word_at;
 use matcher::index::fill_index;
 use matcher::lent::lent_matcher;
 use matcher::local::local_search;
 use matcher::whole::whole_search;
 use matcher_spec::lent::{Features, Index};
-use matcher_spec::types::Reference;
 use replays::digest::with_all;
 use replays::sound::fill_times;
 
@@ -30,9 +30,6 @@ const WORK32: usize = 2 * WINDOW;
 
 const WORK64: usize = 3 * (CASE_BANDS * (CASE_WINDOW + 1)) + CASE_FRAMES;
 
-// The window's first time.
-const BEGIN: f64 = 5000.0;
-
 // What is answered: 1 where the index was filled, a digest of it, and of each search the number of
 // candidates and their digest.
 #[derive(Drop)]
@@ -47,8 +44,7 @@ pub struct Answers {
 
 // Whether the line says these answers.
 #[tactic(auto, unfolding(crate::specs::Agreement::says_of))]
-pub fn says(line: &[u8], found: Answers) -> bool
-    requires { length line.now ≡ line_bytes }
+pub fn says(line: &[u8; LINE], found: Answers) -> bool
     ensures { result ≡ says_of line.now found }
 {
     found.filled == word_at(line, 8)
@@ -60,10 +56,10 @@ pub fn says(line: &[u8], found: Answers) -> bool
 }
 
 // What the matcher answers. The reference's sound is made for all of an array, and its front lent.
-pub fn answers_to(case: Case) -> Answers
-    requires { is_small case ≡ true }
-    ensures { result ≡ answers_of case }
+pub fn answers_to(small: SmallCase) -> Answers
+    ensures { result ≡ answers_of small.case }
 {
+    let case = small.case;
     let mut times = [0.0f64; CASE_FRAMES];
     let mut values = [0.0f32; FINE];
     let mut fine = [0.0f32; FINE];
@@ -71,7 +67,7 @@ pub fn answers_to(case: Case) -> Answers
     let mut fine_energy = [0.0f64; FINE_ENERGY];
     let mut coarse_energy = [0.0f64; COARSE_ENERGY];
     fill_times(&mut times, 0.0, case.hop);
-    sound::fill_reference(&mut values, case.seed, case.period, case.frames);
+    small.fill_reference(&mut values);
     let reference = Features {
         bands: case.bands,
         times: &times[..case.frames],
@@ -93,7 +89,7 @@ pub fn answers_to(case: Case) -> Answers
         fine_energy: &fine_energy,
         coarse_energy: &coarse_energy,
     };
-    search_in(case, &index)
+    search_in(small, &index)
 }
 
 // The answers where the reference is rejected.
@@ -111,58 +107,32 @@ fn rejected() -> Answers
 }
 
 // The window's searches of an index. Its sound, too, is made for all of an array.
-fn search_in(case: Case, index: &Index<'_>) -> Answers
-    requires small { is_small case ≡ true }
-    requires room { FitsArrays index.now }
-    ensures { result ≡ heard_in case index.now }
+fn search_in(small: SmallCase, index: &Index<'_>) -> Answers
+    requires { FitsArrays index.now }
+    ensures { result ≡ heard_in small.case index.now }
 {
+    let case = small.case;
     let mut times = [0.0f64; CASE_WINDOW];
     let mut values = [0.0f32; WINDOW];
     let mut work32 = [0.0f32; WORK32];
     let mut work64 = [0.0f64; WORK64];
     fill_times(&mut times, BEGIN, case.hop);
-    sound::fill_window(&mut values, case.seed, case.period, case.window, case.from);
+    small.fill_window(&mut values);
     let window = Features {
         bands: case.bands,
         times: &times[..case.window],
         values: &values[..case.bands * case.window],
     };
-    search_within(case, index, &window, &mut work32, &mut work64)
-}
-
-// Both searches.
-fn search_within(
-    case: Case,
-    index: &Index<'_>,
-    window: &Features<'_>,
-    work32: &mut [f32],
-    work64: &mut [f64],
-) -> Answers
-    requires small { is_small case ≡ true }
-    requires room { FitsArrays index.now }
-    requires bands { window.now.bands ≡ case.bands }
-    requires times { length window.now.times ≡ case.window }
-    requires values { length window.now.values ≡ case.bands * case.window }
-    requires work32_room { length work32.old ≡ work32_room }
-    requires work64_room { length work64.old ≡ work64_room }
-    ensures { result ≡ searched_in case index.now window.now }
-{
-    let reference = Reference {
-        bands: case.bands,
-        frames: case.frames,
-        start_ms: 0.0,
-        hop_ms: case.hop,
-    };
-    let matcher = lent_matcher(reference, index);
-    let whole = whole_search(&matcher, window, work32, work64);
-    let offset = numbers::float::real(case.from) * case.hop - BEGIN;
+    let matcher = lent_matcher(small.reference(), index);
+    let whole = whole_search(&matcher, &window, &mut work32, &mut work64);
+    let offset = small.offset();
     let local = local_search(
         &matcher.fine,
-        window,
+        &window,
         offset - case.reach,
         offset + case.reach,
-        work32,
-        work64,
+        &mut work32,
+        &mut work64,
     );
     Answers {
         filled: 1,

@@ -1,10 +1,12 @@
 // A case of the list.
-ghost use Rattle.std.specs.Prelude.{◌≡◌, length};
-ghost use Rattle.matcher_replay.specs.Agreement.{line_bytes};
+ghost use Rattle.std.specs.Prelude.{◌≡◌};
 ghost use Rattle.matcher_replay.specs.Cases.{case_of, float_of, is_small};
 
-use hexadecimal::word_at;
+use hexadecimal::{SPACED, word_at};
 use std::num::f64_from_bits_with_nan;
+
+// The bytes of a line: 14 words.
+pub const LINE: usize = 14 * SPACED;
 
 // The most of a case.
 pub const CASE_BANDS: usize = 4;
@@ -33,8 +35,7 @@ pub struct Case {
 impl Case {
     // The case that a line says.
     #[tactic(auto, unfolding(crate::specs::Cases::case_of))]
-    pub fn of(line: &[u8]) -> Case
-        requires { length line.now ≡ line_bytes }
+    pub fn of(line: &[u8; LINE]) -> Case
         ensures { result ≡ case_of line.now }
     {
         Case {

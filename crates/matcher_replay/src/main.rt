@@ -7,50 +7,52 @@
 mod answers;
 mod case;
 mod digest;
+mod small;
 mod sound;
 
-ghost use Rattle.std.specs.Prelude.{◌≡◌, length};
-ghost use Rattle.matcher_replay.specs.Agreement.{agrees_of, differing, line_bytes, lines};
+ghost use Rattle.std.specs.Prelude.{ℕ, ◌≡◌, List, IfOk};
+ghost use Rattle.std.specs.Io.KnownBytes.{Consumes};
+ghost use Rattle.std.proofs.Common.{rules};
+ghost use Rattle.matcher_replay.specs.Agreement.{agrees_of, differing, lines};
 
-use case::Case;
-use hexadecimal::{LIST, SPACED, read_list};
-use replays::lines::Replayed;
+use case::LINE;
+use replays::lines::{Count, Replayed, replay_input};
+use small::SmallCase;
 use std::io;
-use std::io::Stdout;
+use std::io::{Read, Stdout};
 
 // The crate `matcher`.
 #[derive(Drop)]
 struct Matcher;
 
-impl Replayed for Matcher {
-    ghost LINE = { line_bytes };
-
+impl Replayed<LINE> for Matcher {
     ghost MayAgree = { λ line b. b ≡ agrees_of line };
 
-    const LINE: usize = 14 * SPACED;
-
-    fn agrees(&mut self, line: &[u8]) -> bool {
-        let case = Case::of(line);
-        case.is_small() && answers::says(line, answers::answers_to(case))
+    #[tactic(auto, unfolding(crate::specs::Agreement::agrees_of))]
+    fn agrees(&mut self, line: &[u8; LINE]) -> bool {
+        let Some(small) = SmallCase::of(line) else {
+            return false;
+        };
+        answers::says(line, answers::answers_to(small))
     }
+
+    ghost sized = { Prim.search rules };
 }
 
 // The buffer holds 275 lines and a part of one more, so a list that is too long ends in a line that is cut off,
 // which counts as one that differs. Fails where the list cannot be read, or what it came to cannot
 // be written.
+// Kept: of one shape with numbers_replay's, since what each writes is its own.
 fn main(rt: HostRuntime) -> io::Result<()> {
     let out = rt.stdout();
-    let mut list = [0u8; LIST];
-    let size = read_list(&mut rt.stdin(), &mut list)?;
-    let differ = replay(out, &list[..size]);
-    let lines = size.div_ceil(Matcher::LINE);
+    let Count { lines, differ } = replay(&mut rt.stdin(), out)?;
     println!(out; "{lines} cases replayed, {differ} differ")
 }
 
 // Writes the number of each line that differs, and answers how many do. One that cannot be written
 // counts all the same.
-fn replay(out: Stdout, list: &[u8]) -> usize
-    ensures { result ≡ differing (lines list.now) list.now }
+fn replay<R: Read>(input: &mut R, out: Stdout) -> io::Result<Count>
+    ensures { IfOk result (λ count. (list : List ℕ) × Consumes (R.remaining input.old) (R.remaining input.new) list × (count.lines ≡ lines list) × (count.differ ≡ differing (lines list) list)) }
 {
-    replays::lines::replay(&mut Matcher, out, list)
+    replay_input(&mut Matcher, input, out)
 }

@@ -1,6 +1,6 @@
 // A line of the list, and whether the crate `numbers` agrees with it.
-ghost use Rattle.std.specs.Prelude.{length, ◌≡◌};
-ghost use Rattle.numbers_replay.specs.Cases.{agrees_of, function_of, line_bytes, read_of, reply_of};
+ghost use Rattle.std.specs.Prelude.{◌≡◌};
+ghost use Rattle.numbers_replay.specs.Cases.{agrees_of, function_of, read_of, reply_of};
 
 use numbers::exponential::{exp, ten_to};
 use numbers::float::widen;
@@ -10,10 +10,12 @@ use numbers::root::root;
 use numbers::whole::{ceil, floor, round};
 use std::num::{f64_from_bits_with_nan, f64_to_bits_with_nan};
 
+// The bytes of a line: a name of six, two words of 16 digits, and a byte after each.
+pub const LINE: usize = 41;
+
 // Whether a line is well-formed and the crate's answer is the line's, bit for bit.
 #[tactic(auto, unfolding(crate::specs::Cases::agrees_of))]
-pub fn agrees(line: &[u8]) -> bool
-    requires { length line.now ≡ line_bytes }
+pub fn agrees(line: &[u8; LINE]) -> bool
     ensures { result ≡ agrees_of (read_of line.now) }
 {
     let Some(case) = parse(line) else {
@@ -100,8 +102,7 @@ struct Case {
 
 // What a line says, where it is well-formed.
 #[tactic(auto, unfolding(crate::specs::Cases::read_of))]
-fn parse(line: &[u8]) -> Option<Case>
-    requires { length line.now ≡ line_bytes }
+fn parse(line: &[u8; LINE]) -> Option<Case>
     ensures { result ≡ read_of line.now }
 {
     let parted = (line[6] == b' ') & (line[23] == b' ') & (line[40] == b'\n');

@@ -7,46 +7,44 @@
 
 mod line;
 
-ghost use Rattle.std.specs.Prelude.{length, ◌≡◌};
-ghost use Rattle.numbers_replay.specs.Cases.{agrees_of, differing, line_bytes, lines, read_of};
+ghost use Rattle.std.specs.Prelude.{ℕ, ◌≡◌, List, IfOk};
+ghost use Rattle.std.specs.Io.KnownBytes.{Consumes};
+ghost use Rattle.std.proofs.Common.{rules};
+ghost use Rattle.numbers_replay.specs.Cases.{agrees_of, differing, lines, read_of};
 
-use hexadecimal::{LIST, read_list};
-use replays::lines::Replayed;
+use line::LINE;
+use replays::lines::{Count, Replayed, replay_input};
 use std::io;
-use std::io::Stdout;
+use std::io::{Read, Stdout};
 
 // The functions of the crate `numbers`.
 #[derive(Drop)]
 struct Numbers;
 
-impl Replayed for Numbers {
-    ghost LINE = { line_bytes };
-
+impl Replayed<LINE> for Numbers {
     ghost MayAgree = { λ line b. b ≡ agrees_of (read_of line) };
 
-    const LINE: usize = 41;
-
-    fn agrees(&mut self, line: &[u8]) -> bool {
+    fn agrees(&mut self, line: &[u8; LINE]) -> bool {
         line::agrees(line)
     }
+
+    ghost sized = { Prim.search rules };
 }
 
 // The buffer holds 1,598 lines and a part of one more, so a list that is too long ends in a line that is cut off,
 // which counts as one that differs. Fails where the list cannot be read, or what it came to cannot
 // be written.
+// Kept: of one shape with matcher_replay's, since what each writes is its own.
 fn main(rt: HostRuntime) -> io::Result<()> {
     let out = rt.stdout();
-    let mut list = [0u8; LIST];
-    let size = read_list(&mut rt.stdin(), &mut list)?;
-    let differ = replay(out, &list[..size]);
-    let lines = size.div_ceil(Numbers::LINE);
+    let Count { lines, differ } = replay(&mut rt.stdin(), out)?;
     println!(out; "{lines} numbers replayed, {differ} differ")
 }
 
 // Writes the number of each line that differs, and answers how many do. One that cannot be written
 // counts all the same.
-fn replay(out: Stdout, list: &[u8]) -> usize
-    ensures { result ≡ differing (lines list.now) list.now }
+fn replay<R: Read>(input: &mut R, out: Stdout) -> io::Result<Count>
+    ensures { IfOk result (λ count. (list : List ℕ) × Consumes (R.remaining input.old) (R.remaining input.new) list × (count.lines ≡ lines list) × (count.differ ≡ differing (lines list) list)) }
 {
-    replays::lines::replay(&mut Numbers, out, list)
+    replay_input(&mut Numbers, input, out)
 }

@@ -1,3 +1,4 @@
 pub mod Digests
 pub mod Lines
+pub mod Counts
 pub mod Sounds

@@ -1,58 +1,97 @@
 // Lists of lines that say what was answered, replayed line by line.
-ghost use Rattle.std.specs.Prelude.{ℕ, ◌≡◌, ◌<◌, ◌+◌, ◌^◌, Bool, ◌==◌, ◌&&◌, List, length};
+ghost use Rattle.std.specs.Prelude.{ℕ, ◌≡◌, ◌<◌, ◌≤◌, ◌^◌, Bool, not, List, filter, length, IfOk};
 ghost use Rattle.replays.specs.Lines.{Decides, differing, lines};
+ghost use Rattle.replays.specs.Counts.{Counts};
 
+use hexadecimal::{LIST, read_list};
 use std::io;
-use std::io::Stdout;
+use std::io::{Read, Stdout};
+use std::num::NonZeroUsize;
 
-// What answers the lines of a list.
-pub trait Replayed {
-    ghost LINE: { ℕ };
-
-    // A whole line may be found to agree, or not to. An answer may depend on the lines before.
+// What answers the lines of a list, each of so many bytes.
+pub trait Replayed<const LINE: usize> {
+    // A line may be found to agree, or not to. An answer may depend on the lines before.
     ghost MayAgree: { List ℕ → Bool → Type 0 };
 
-    // The bytes of a line.
-    const LINE: usize;
-
-    // Whether a whole line says what is answered to it.
-    fn agrees(&mut self, line: &[u8]) -> bool
-        requires { length line.now ≡ LINE }
+    // Whether a line says what is answered to it.
+    fn agrees(&mut self, line: &[u8; LINE]) -> bool
         ensures { MayAgree line.now result };
 
-    // Writes that the line after the first `before` differs, as one does that is not whole.
-    fn report(&self, out: Stdout, before: usize, _whole: bool) -> io::Result<()>
-        requires { before + 1 < 2 ^ 64 }
-    {
-        let number = before + 1;
+    // Writes that the line of a number differs.
+    fn report(&self, out: Stdout, number: NonZeroUsize) -> io::Result<()> {
         println!(out; "line {number} differs")
     }
+
+    // Writes that the last line differs, since it is cut off.
+    fn report_cut_off(&self, out: Stdout, number: NonZeroUsize) -> io::Result<()> {
+        self.report(out, number)
+    }
+
+    // A line has a byte at least, and no more than an array can have.
+    ghost sized: { (0 < LINE) × (LINE < 2 ^ 63) };
+}
+
+// What a list comes to.
+#[derive(Clone, Copy)]
+pub struct Count {
+    pub lines: usize,
+    pub differ: usize,
+}
+
+// Reads a list and replays it. Fails where it cannot be read.
+pub fn replay_input<const LINE: usize, A: Replayed<LINE>, R: Read>(
+    answers: &mut A,
+    input: &mut R,
+    out: Stdout,
+) -> io::Result<Count>
+    ensures { IfOk result (Counts LINE A.MayAgree (R.remaining input.old) (R.remaining input.new)) }
+{
+    let mut list = [0u8; LIST];
+    let size = read_list(input, &mut list)?;
+    Ok(Count {
+        lines: size.div_ceil(LINE),
+        differ: replay(answers, out, &list[..size]),
+    })
 }
 
 // How many lines of a list differ from what is answered to them or are cut off. Each of them is
 // written; one that cannot be counts all the same.
-pub fn replay<A: Replayed>(answers: &mut A, out: Stdout, list: &[u8]) -> usize
-    requires { 0 < A.LINE }
-    ensures { (agrees : List ℕ → Bool) → Decides agrees A.MayAgree → result ≡ differing A.LINE agrees (lines A.LINE list.now) list.now }
+pub fn replay<const LINE: usize, A: Replayed<LINE>>(
+    answers: &mut A,
+    out: Stdout,
+    list: &[u8],
+) -> usize
+    ensures { (agrees : List ℕ → Bool) → Decides agrees A.MayAgree → result ≡ differing LINE agrees (lines LINE list.now) list.now }
+{
+    let (lines, rest) = list.as_chunks();
+    let differ = replay_lines(answers, out, lines);
+    if rest.is_empty() {
+        return differ;
+    }
+    let _ = answers.report_cut_off(out, number_after(lines.len()));
+    differ + 1
+}
+
+// How many lines differ from what is answered to them.
+fn replay_lines<const LINE: usize, A: Replayed<LINE>>(
+    answers: &mut A,
+    out: Stdout,
+    lines: &[[u8; LINE]],
+) -> usize
+    ensures bound { result ≤ length lines.now }
+    ensures counted { (agrees : List ℕ → Bool) → Decides agrees A.MayAgree → result ≡ length (filter (λ line. not (agrees line)) lines.now) }
 {
     let mut differ = 0;
-    for (before, line) in list.chunks(A::LINE).enumerate() {
-        if !agrees_or_report(answers, out, before, line) {
+    for (before, line) in lines.iter().enumerate() {
+        if !answers.agrees(line) {
+            let _ = answers.report(out, number_after(before));
             differ += 1;
         }
     }
     differ
 }
 
-// Whether a line is whole and agrees. Otherwise that is written.
-fn agrees_or_report<A: Replayed>(answers: &mut A, out: Stdout, before: usize, line: &[u8]) -> bool
-    requires { before + 1 < 2 ^ 64 }
-    ensures { (agrees : List ℕ → Bool) → Decides agrees A.MayAgree → result ≡ (length line.now == A.LINE && agrees line.now) }
-{
-    let whole = line.len() == A::LINE;
-    let agrees = whole && answers.agrees(line);
-    if !agrees {
-        let _ = answers.report(out, before, whole);
-    }
-    agrees
+// The number of the line after the first `before`.
+fn number_after(before: usize) -> NonZeroUsize {
+    NonZeroUsize::MIN.saturating_add(before)
 }

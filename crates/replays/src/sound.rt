@@ -1,6 +1,7 @@
 // Values and times from a few numbers, so that a list of cases stays short. The driver in compare/
 // makes the same ones.
-ghost use Rattle.std.specs.Prelude.{◌≡◌, ◌%◌, length};
+ghost use Rattle.std.specs.Prelude.{ℕ, ◌≡◌, ◌/◌, ◌%◌, ◌<◌, Float, length};
+ghost use Rattle.numbers_spec.specs.Rows.{tabulate};
 ghost use Rattle.replays.specs.Sounds.{times_from, value_at};
 
 // A value from 0 to 64, the same for the same two numbers: two steps of a generator by products.
@@ -19,5 +20,16 @@ pub fn fill_times(times: &mut [f64], start: f64, hop: f64)
 {
     for i in 0..times.len() {
         times[i] = start + numbers::float::real(i) * hop;
+    }
+}
+
+// Values band after band, n frames each: element i is what `at` makes of band i / n and its frame i % n.
+pub fn fill_bands<F: Fn(usize, usize) -> f32>(values: &mut [f32], n: usize, at: F)
+    requires some { 0 < n }
+    requires callable { (i : ℕ) → i < length values.old → F.pre at (i / n) (i % n) }
+    ensures { (f : ℕ → ℕ → Float) → ((i : ℕ) (x : Float) → i < length values.old → F.post at (i / n) (i % n) x → x ≡ f (i / n) (i % n)) → values.new ≡ tabulate (λ (i : ℕ). f (i / n) (i % n)) (length values.old) }
+{
+    for i in 0..values.len() {
+        values[i] = at(i / n, i % n);
     }
 }

@@ -1,83 +1,77 @@
-use Rattle.std.proofs.Common.{rules, ◌≡◌, ℕ, suc, ◌+◌, ◌-◌, ◌/◌, ◌<◌, min, Bool, true, false, cond, List, ◌++◌, length, drop, refl, sym, ap, ◌∙◌, arith, inl, inr, length-append, drop_of_length-le, le-ltb, lt-ltb, ◌==◌, ◌&&◌}
-use borrow.Author.Tests.{eq-eqb, ne_eqb}
-use Rattle.std.proofs.Math.Seq.{take-append_seam, drop-append_seam}
-use Rattle.std.proofs.Math.Nat.{add-div_right, div-eq_of_lt}
-use Rattle.std.proofs.lemmas.Bool.{cases_lt}
-use Rattle.std.proofs.lemmas.List.{nil_from_length}
+-- `replays::lines::replay` meets its contract: whole lines come off the list's front, and what is left is one that is cut off. Assumes nothing.
+use Rattle.std.proofs.Common.{◌≡◌, ℕ, zero, suc, ◌+◌, ◌*◌, ◌/◌, ◌%◌, ◌<◌, ◌≤◌, Bool, true, false, not, cond, List, ◌∷◌, length, filter, take, drop, refl, sym, ap, ◌∙◌, arith, le-ltb, lt-ltb, mod-lt, min, ◌==◌}
+use Rattle.std.proofs.Math.Nat.{suc-add, suc-mul}
+use Rattle.std.proofs.lemmas.Nat.{div-add-mod'}
+use Rattle.std.proofs.lemmas.Bool.{eqb-true}
+use Rattle.std.proofs.lemmas.Grind.{common_steps}
+use Rattle.std.proofs.lemmas.List.{length-drop, drop-drop}
+use Rattle.std.specs.Simd.{first_chunks}
 use Rattle.replays.specs.Lines.{differing, first_agrees, lines}
+use Rattle.replays.proofs.LineLaws.{rounded_up}
 use Rattle.replays.proofs.lines.replay.Goals as goal
 
-added : (v : Bool) (d r t : ℕ) → d + (cond v 0 1 + r) ≡ t → cond v d (d + 1) + r ≡ t
-added true d r t h = omega arith
-added false d r t h = omega arith
+positive : (n : ℕ) → (n == 0) ≡ false → 0 < n
+positive n e = grind (arith, common_steps)
 
--- A line comes off the front of what is left.
-module _ (w : ℕ) (some : 0 < w) (all line rest : List ℕ) (parts : all ≡ line ++ rest) (size : length line ≡ min w (length all)) (left : 0 < length all) where
-  both : length all ≡ length line + length rest
-  both = ap length parts ∙ length-append line rest
+module _ (w : ℕ) (p : List ℕ → Bool) where
+  -- how many lines differ
+  abbrev others : List (List ℕ) → ℕ
+  others l = length (filter (λ line. not (p line)) l)
 
-  after : drop w all ≡ rest
-  after = elim (cases_lt (length line) w) [
-    | inl h ↦ drop_of_length-le all (omega (arith, both)) ∙ sym (nil_from_length rest (omega (arith, both)))
-    | inr h ↦ let e : w ≡ length line = omega (arith, both) in rw (parts, e) (drop-append_seam line rest)
-  ]
+  first : (all : List ℕ) → w ≤ length all → first_agrees w p all ≡ p (take w all)
+  unfolding first_agrees
+  first all h = rw (le-ltb (length all) w h) refl
 
-  one_fewer : lines w all ≡ suc (lines w rest)
-  one_fewer = elim (cases_lt (length line) w) [
-    | inl h ↦
-        let none : (length rest + (w - 1)) / w ≡ 0 = div-eq_of_lt (omega (arith, both)) in
-        let one : (length line - 1) / w ≡ 0 = div-eq_of_lt (omega (arith, both)) in
-        ap (λ (n : ℕ). n / w) (omega (arith, both)) ∙ add-div_right (length line - 1) some ∙ omega arith
-    | inr h ↦ ap (λ (n : ℕ). n / w) (omega (arith, both)) ∙ add-div_right (length rest + (w - 1)) some ∙ omega arith
-  ]
+  one : (v : Bool) (x : List ℕ) (rest : List (List ℕ)) (t : ℕ) → v ≡ p x → cond v 0 1 + (others rest + t) ≡ others (x ∷ rest) + t
+  one true x rest t e = rw (← e) (omega arith)
+  one false x rest t e = rw (← e) (omega arith)
 
-  module _ (p : List ℕ → Bool) where
-    first : first_agrees w p all ≡ (length line == w && p line)
-    unfolding first_agrees
-    first = elim (cases_lt (length line) w) [
-      | inl h ↦ rw (lt-ltb (length all) w (omega (arith, both)), ne_eqb (length line) w (omega arith))
-      | inr h ↦
-          let e : w ≡ length line = omega (arith, both) in
-          rw (le-ltb (length all) w (omega (arith, both)), e, eq-eqb (length line) (length line) refl, parts, take-append_seam line rest)
-    ]
+  -- k whole lines come off the front
+  passed : (k m : ℕ) (all : List ℕ) → k * w ≤ length all → differing w p (k + m) all ≡ others (first_chunks w k all) + differing w p m (drop (k * w) all)
+  unfolding differing
+  passed zero m all h =
+      let a : 0 + m ≡ m = omega arith in
+      let b : 0 * w ≡ 0 = omega arith in
+      rw (a, b) (omega arith)
+  passed (suc k) m all h =
+      let room : w ≤ length all = omega (arith, suc-mul k w) in
+      let left : k * w ≤ length (drop w all) = rw (length-drop w all) (omega (arith, suc-mul k w)) in
+      let behind : drop (k * w) (drop w all) ≡ drop (suc k * w) all = drop-drop (k * w) w all ∙ ap (λ n. drop n all) (omega (arith, suc-mul k w)) in
+      rw (suc-add k m, passed k m (drop w all) left, behind) (one (first_agrees w p all) (take w all) _ _ (first all room))
 
-    -- what differs so far, with its line, and what differs behind it
-    counted_on : (v : Bool) (differ total : ℕ) → v ≡ (length line == w && p line) → differ + differing w p (lines w all) all ≡ total → cond v differ (differ + 1) + differing w p (lines w rest) rest ≡ total
+  -- a line that is cut off differs
+  cut : (rest : List ℕ) → length rest < w → differing w p 1 rest ≡ 1
+  unfolding differing first_agrees
+  cut rest h = rw (lt-ltb (length rest) w h) refl
+
+  module _ (some : 0 < w) (all : List ℕ) where
+    room : length all / w * w ≤ length all
+    room = omega (arith, div-add-mod' (length all) w)
+
+    all_whole : length all % w ≡ 0 → others (first_chunks w (length all / w) all) ≡ differing w p (lines w all) all
     unfolding differing
-    counted_on v differ total e h = added v _ _ _ (rw (one_fewer, after, first, ← e) at h)
+    all_whole r = rw (rounded_up (length all) w some, r, passed (length all / w) 0 all room) (omega arith)
 
-pub loop-before-preserved-then-not-agrees_or_report : goal.loop-before-preserved-then-not-agrees_or_report
-loop-before-preserved-then-not-agrees_or_report g c =
-    let s = c.in-Some.ensures.steps in
-    let i = c.loop-before.invariant in
-    record {
-      next = search rules;
-      finite = tt;
-      size = s.0.0 ∙ i.size;
-      few = omega arith;
-      counted = λ p d. counted_on _ c.requires _ _ _ s.0.1.0 (rw i.size at s.0.1.1) s.0.1.2 p false _ _ (sym c.if-not-agrees_or_report.true ∙ c.agrees_or_report.ensures p d) (i.counted p d);
-    }
+    one_cut : 0 < length all % w → length (drop (length all / w * w) all) ≡ length all % w → others (first_chunks w (length all / w) all) + 1 ≡ differing w p (lines w all) all
+    one_cut h r =
+        let one_more : min 1 (length all % w) ≡ 1 = omega arith in
+        rw (rounded_up (length all) w some, one_more, passed (length all / w) 1 all room, cut (drop (length all / w * w) all) (rw r (mod-lt (length all) some))) refl
 
-pub loop-before-preserved : goal.loop-before-preserved
-loop-before-preserved g c =
-    let s = c.in-Some.ensures.steps in
-    let i = c.loop-before.invariant in
-    record {
-      next = search rules;
-      finite = tt;
-      size = s.0.0 ∙ i.size;
-      few = omega arith;
-      counted = λ p d. counted_on _ c.requires _ _ _ s.0.1.0 (rw i.size at s.0.1.1) s.0.1.2 p true _ _ (sym c.if-not-agrees_or_report.false ∙ c.agrees_or_report.ensures p d) (i.counted p d);
-    }
+pub as_chunks-requires : goal.as_chunks-requires
+as_chunks-requires g c = let s = g.met.A.Replayed.sized in (omega (arith, s.1), s.0)
 
-none_left : (w : ℕ) (p : List ℕ → Bool) (rest : List ℕ) (some : 0 < w) → length rest ≡ 0 → differing w p (lines w rest) rest ≡ 0
-unfolding differing
-none_left w p rest some e =
-    let n : lines w rest ≡ 0 = div-eq_of_lt (omega arith) in
-    rw n
+pub replay_lines-differ-requires : goal.replay_lines-differ-requires
+replay_lines-differ-requires g c = let s = g.met.A.Replayed.sized in omega (arith, s.1)
+
+pub returns-then-is_empty : goal.returns-then-is_empty
+returns-then-is_empty g c = λ p d.
+    let k = c.as_chunks.ensures in
+    let none : length c.as_chunks.result.1.now ≡ 0 = eqb-true _ _ (sym c.is_empty.ensures ∙ c.if-is_empty.true) in
+    c.replay_lines-differ.ensures.counted p d ∙ ap (λ l. others g.row.LINE p l) k.front ∙ all_whole g.row.LINE p g.met.A.Replayed.sized.0 c.args.list.now (sym k.back_len ∙ none)
 
 pub returns : goal.returns
 returns g c = λ p d.
-    let n = none_left _ p _ c.requires c.in-None.ensures.steps.0.1.0 in
-    let h = c.loop-before.invariant.counted p d in
-    omega (arith, n, h)
+    let k = c.as_chunks.ensures in
+    let some = positive (length c.as_chunks.result.1.now) (sym c.is_empty.ensures ∙ c.if-is_empty.false) in
+    ap (λ n. n + 1) (c.replay_lines-differ.ensures.counted p d ∙ ap (λ l. others g.row.LINE p l) k.front)
+    ∙ one_cut g.row.LINE p g.met.A.Replayed.sized.0 c.args.list.now (omega (arith, some, k.back_len)) (ap length (sym k.back) ∙ k.back_len)

@@ -1,8 +1,0 @@
--- `matcher_replay::sound::fill_reference` meets its contract. The loop's invariant: so many elements are filled by the rule. Assumes nothing.
-use Rattle.std.proofs.Common.{ℕ, ◌/◌, ◌%◌}
-use Rattle.matcher_replay.specs.Sounds.{sound_at}
-use Rattle.numbers_spec.proofs.RowLaws.{Filling}
-use Rattle.matcher_replay.proofs.sound.fill_reference.Given as goal
-
-abbrev pub invariant-loop-i : goal.invariant-loop-i
-invariant-loop-i l = Filling (λ (k : ℕ). sound_at l.seed l.period (k / l.n) (k % l.n)) l.initial.values l.i l.values

@@ -1,0 +1,14 @@
+-- What is read of an input, replayed: its lines, and how many of them differ. Definitions only.
+use Rattle.std.specs.Prelude.{ℕ, ◌≡◌, ◌<◌, Bool, List, Option, length}
+use Rattle.std.specs.Io.KnownBytes.{Consumes, IsAtEnd}
+use Rattle.hexadecimal.specs.Hexadecimal.{list_most}
+use Rattle.replays.specs.Lines.{Decides, differing, lines}
+use Rattle.replays.specs.declared.lines.Count.{Count}
+
+-- From an input with some bytes left to one with others: what lies between is the list. It is all where a list may be longer.
+pub record Counts (width : ℕ) (MayAgree : List ℕ → Bool → Type 0) (old new : Option (List ℕ)) (count : Count) : Type 0 where
+  pub list : List ℕ
+  pub read : Consumes old new list
+  pub all : length list < list_most → IsAtEnd new
+  pub lines_are : count.lines ≡ lines width list
+  pub differ_are : (agrees : List ℕ → Bool) → Decides agrees MayAgree → count.differ ≡ differing width agrees (lines width list) list
