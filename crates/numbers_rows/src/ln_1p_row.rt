@@ -1,7 +1,7 @@
-// `ln_1p` of each number of a row, in short passes without a branch, so that they become vector code.
-// Each number goes the steps of `ln_1p` and `ln` in their order; both ways of it, up to 0.375 and above,
-// are worked out, and one is chosen. A row with a NaN or plus infinity is given to `ln_1p`, one number
-// after the other.
+// `ln_1p` of each number of a row, in short passes; those of the series have no branch, so that a
+// compiler can make them vector code. Each number goes the steps of `ln_1p` and `ln` in their order;
+// both ways of it, up to 0.375 and above, are worked out, and one is chosen. A row with a NaN or plus
+// infinity is given to `ln_1p`, one number after the other.
 ghost use Rattle.std.specs.Prelude.{ℕ, ◌+◌, ◌*◌, ◌<◌, ◌≤◌, pos, Float, get_or, length, cond, true, ◌≡◌};
 ghost use Rattle.std.specs.Float.{binary64, nan};
 ghost use Rattle.std.specs.Float.Ieee.{le, of_int};
