@@ -7,11 +7,11 @@ use hexadecimal::word_at;
 use replays::sound::fill_times;
 
 // The most frames and bands of a reference whose index the program's buffers hold.
-pub const FRAMES: usize = 400;
+pub(crate) const FRAMES: usize = 400;
 
-pub const BANDS: usize = 4;
+pub(crate) const BANDS: usize = 4;
 
-pub const VALUES: usize = BANDS * FRAMES;
+pub(crate) const VALUES: usize = BANDS * FRAMES;
 
 // What makes a reference. `fault` and `at` say what is wrong with it, see faults.rt. The index
 // buffers are lent whole: some references need longer ones.

@@ -49,8 +49,8 @@ fn main(rt: HostRuntime) -> io::Result<()> {
     println!(out; "{lines} cases replayed, {differ} differ")
 }
 
-// Writes the number of each line that differs, and answers how many do. One that cannot be written
-// counts all the same.
+// Reads the list and replays it. The number of each line that differs is written, and one that
+// cannot be counts all the same.
 fn replay<R: Read>(input: &mut R, out: Stdout) -> io::Result<Count>
     ensures { IfOk result (λ count. (list : List ℕ) × Consumes (R.remaining input.old) (R.remaining input.new) list × (count.lines ≡ lines list) × (count.differ ≡ differing (lines list) list)) }
 {

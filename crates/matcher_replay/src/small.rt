@@ -9,6 +9,7 @@ use matcher_spec::types::Reference;
 // The window's first time.
 pub const BEGIN: f64 = 5000.0;
 
+// What `is_small` tests is a fact of each.
 #[derive(Clone, Copy)]
 pub struct SmallCase {
     pub case: Case,
@@ -27,6 +28,7 @@ impl SmallCase {
         Some(SmallCase { case })
     }
 
+    // The reference that is searched.
     pub fn reference(self) -> Reference
         ensures { result ≡ reference_of self.case }
     {

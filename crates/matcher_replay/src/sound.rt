@@ -34,19 +34,18 @@ impl Sound {
 }
 
 impl SmallCase {
-    // What the reference has in a band at a frame.
-    fn sound_at(self, band: usize, frame: usize) -> f32
-        requires { band < fine_room }
-        ensures { result ≡ sound_at self.case.seed self.case.period band frame }
+    // What the reference has.
+    fn sound(self) -> Sound
+        ensures seed { result.seed ≡ self.case.seed }
+        ensures period { result.period ≡ self.case.period }
     {
-        let sound = Sound {
+        Sound {
             seed: self.case.seed,
             period: self.case.period,
-        };
-        sound.at(band, frame)
+        }
     }
 
-    // What a window hears there: softer, and with something else beside it.
+    // What a window hears in a band at a frame of it: softer, and with something else beside it.
     #[tactic(auto, unfolding(crate::specs::Sounds::heard_at))]
     fn heard_at(self, band: usize, frame: usize) -> f32
         requires { band < fine_room }
@@ -56,7 +55,7 @@ impl SmallCase {
             seed: self.case.seed + 1,
             period: BAND_STEP,
         };
-        self.sound_at(band, frame) * 0.75 + beside.at(band, frame) * 0.25
+        self.sound().at(band, frame) * 0.75 + beside.at(band, frame) * 0.25
     }
 
     // The reference, band after band.
@@ -64,10 +63,11 @@ impl SmallCase {
         requires { length values.old ≤ fine_room }
         ensures { values.new ≡ reference_values self.case.seed self.case.period self.case.frames (length values.old) }
     {
+        let sound = self.sound();
         fill_bands(
             values,
             self.case.frames,
-            |band, frame| self.sound_at(band, frame),
+            |band, frame| sound.at(band, frame),
         );
     }
 

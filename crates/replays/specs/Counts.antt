@@ -5,7 +5,7 @@ use Rattle.hexadecimal.specs.Hexadecimal.{list_most}
 use Rattle.replays.specs.Lines.{Decides, differing, lines}
 use Rattle.replays.specs.declared.lines.Count.{Count}
 
--- From an input with some bytes left to one with others: what lies between is the list. It is all where a list may be longer.
+-- Between what an input has left before and what it has after lies the list, which is all of it unless it is as long as a list can be.
 pub record Counts (width : ℕ) (MayAgree : List ℕ → Bool → Type 0) (old new : Option (List ℕ)) (count : Count) : Type 0 where
   pub list : List ℕ
   pub read : Consumes old new list

@@ -15,6 +15,7 @@ pub fn value_at(seed: u64, n: u64) -> f32
 }
 
 // Times from `start` on, a hop apart.
+// Kept: start and hop, which a caller has as two numbers and puts together for nothing else.
 pub fn fill_times(times: &mut [f64], start: f64, hop: f64)
     ensures { times.new ≡ times_from start hop (length times.old) }
 {

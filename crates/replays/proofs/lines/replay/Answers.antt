@@ -57,12 +57,6 @@ module _ (w : ℕ) (p : List ℕ → Bool) where
         let one_more : min 1 (length all % w) ≡ 1 = omega arith in
         rw (rounded_up (length all) w some, one_more, passed (length all / w) 1 all room, cut (drop (length all / w * w) all) (rw r (mod-lt (length all) some))) refl
 
-pub as_chunks-requires : goal.as_chunks-requires
-as_chunks-requires g c = let s = g.met.A.Replayed.sized in (omega (arith, s.1), s.0)
-
-pub replay_lines-differ-requires : goal.replay_lines-differ-requires
-replay_lines-differ-requires g c = let s = g.met.A.Replayed.sized in omega (arith, s.1)
-
 pub returns-then-is_empty : goal.returns-then-is_empty
 returns-then-is_empty g c = λ p d.
     let k = c.as_chunks.ensures in
