@@ -32,10 +32,6 @@ module _ (n : ℕ) (r : Float) where
   long [] = refl
   long (x ∷ a) = ap suc (long a)
 
-  pub shown_none : (l : List Candidate) → replicate 8 blank_candidate ≡ candidate_array n r (take 0 l)
-  unfolding candidates_shown
-  shown_none l = refl
-
   next : (a : List Candidate) (c : Candidate) → length a < 8 → set (candidate_array n r a) (length a) (candidate_shown n r c) ≡ candidate_array n r (a ++ (c ∷ []))
   next a c h =
       let e : 8 - length a ≡ suc (8 - (length a + 1)) = omega arith in
