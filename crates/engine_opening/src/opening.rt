@@ -17,7 +17,7 @@ use matcher_spec::lent::{Features, Index};
 // band after band. A reference that the matcher rejects opens an engine without index, and nothing
 // is written either; else the four slices hold its index, and what lay behind it stays. All that is
 // promised of submissions to what was opened is `Guaranteed`.
-#[tactic(auto, unfolding(engine_spec::specs::Opening::opening))]
+#[tactic(auto, unfolding(engine_spec::specs::Opening::opening), using(crate::proofs::OpenLaws::index_kept, crate::proofs::OpenLaws::index_filled))]
 pub fn open(
     configuration: Configuration,
     hop: f64,
