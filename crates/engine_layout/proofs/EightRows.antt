@@ -23,9 +23,13 @@ unfoldable pub BackTo : ℕ → List CandidateDiagnostics → Type 0
 BackTo zero l = Unit {0}
 BackTo (suc n) l = BackTo n l × (candidate_of (candidate_words (get_or l n no_candidate)) ≡ get_or l n no_candidate)
 
-pub all_back : (c : List CandidateDiagnostics) → length c ≡ candidates_most → BackTo candidates_most c → candidates_of (candidates_to candidates_most c) ≡ c
+pub all_written : (c : List CandidateDiagnostics) (at i : ℕ) {old new : List ℕ} → Laid at (i * 5) (candidates_to i c) old new → i ≡ candidates_most → new ≡ placed at (candidates_to candidates_most c) old
+all_written c at i l e = (rw e at l).there
+
+pub all_back : (c : List CandidateDiagnostics) (i : ℕ) → BackTo i c → i ≡ candidates_most → length c ≡ candidates_most → candidates_of (candidates_to candidates_most c) ≡ c
 unfolding BackTo candidates_of candidates_to candidate_words spell
-all_back c h b =
+all_back c i l e h =
+    let b : BackTo candidates_most c = rw e at l in
     cons_same b.0.0.0.0.0.0.0.1
     (cons_same b.0.0.0.0.0.0.1
     (cons_same b.0.0.0.0.0.1

@@ -5,6 +5,7 @@ use mathlib.Core.List.{List, [], ◌∷◌, ◌++◌, append_assoc}
 use native.Mathlib.Omega.{arith}
 use lib.ListN.{length, take, drop, get_or, length-append, length-drop, drop_of_length-le, take-append-drop}
 use lib.Seq.{length-take-le, drop-cons, drop-append-le, take-append-le, drop_at, drop-drop, take_at, take-length}
+use lib.Ieee.Bits.{of_bits-to_bits}
 use Rattle.engine_layout.specs.Layout.{part}
 use Rattle.engine_layout.specs.Written.{placed}
 
@@ -62,6 +63,9 @@ next_laid {at} {k} {m} {n} {xs} {ys} {zs} {old} {mid} {new} l e s q h p = record
 }
 
 -- ---- reading it back
+-- A float's word is read as the float.
+pub ruleset read_back = (of_bits-to_bits)
+
 -- The last part of a row.
 pub last_part : (n k : ℕ) (xs ys : List ℕ) → length xs ≡ n → length ys ≡ k → part n k (xs ++ ys) ≡ ys
 last_part n k xs ys e h = ap (take k) (drop_at xs ys n e) ∙ ap (λ (j : ℕ). take j ys) (sym h) ∙ take-length ys

@@ -38,6 +38,7 @@ pub fn candidate_of(words: &[u64; 5]) -> CandidateDiagnostics
     }
 }
 
+#[tactic(auto, unfolding(crate::specs::Written::candidates_to, crate::proofs::EightRows::BackTo), using(crate::proofs::Laws::none_laid, crate::proofs::EightRows::all_written, crate::proofs::EightRows::all_back))]
 pub fn put_candidates(
     words: &mut [u64],
     at: usize,

@@ -23,6 +23,7 @@ pub trait Word: Copy {
 }
 
 // The bit pattern; one fixed pattern for a NaN, and any NaN's pattern is read as the NaN.
+#[tactic(auto, using(crate::proofs::Laws::read_back))]
 impl Word for f64 {
     ghost word = { word };
 

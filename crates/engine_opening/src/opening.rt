@@ -18,7 +18,7 @@ use matcher_spec::lent::{Features, Index};
 // is written either; else the four slices hold its index, and what lay behind it stays. All that is
 // promised of submissions to what was opened is `Guaranteed`.
 // Kept: the four buffers of the index are filled here, so they are lent `&mut`, each by itself.
-#[tactic(auto, unfolding(engine_spec::specs::Opening::opening))]
+#[tactic(auto, unfolding(engine_spec::specs::Opening::opening), using(crate::proofs::OpenLaws::index_kept, crate::proofs::OpenLaws::index_filled))]
 pub fn open(
     configuration: Configuration,
     hop: f64,

@@ -11,7 +11,7 @@ use lib.Dec.{T, eqb, eqb→eq, ltb→lt}
 use lib.ListN.{length, get_or, set, take, replicate, length-append}
 use lib.Seq.{length-take-le, set_at, append_snoc, take-suc}
 use lib.IntN.{ℤ}
-use lib.Ieee.{Float, nan, inf, fin, binary64, fits, eq, lt, neg, up, down}
+use lib.Ieee.{Float, nan, inf, fin, binary64, fits, eq, lt, neg, of_bits, up, down}
 use lib.Ieee.Fits.{neg-fits, up_pos}
 use lib.Ieee.Back.{whole_unique}
 use Rattle.numbers_spec.specs.Arithmetic.{zero⁺, magnitude}
@@ -31,10 +31,6 @@ module _ (n : ℕ) (r : Float) where
   unfolding candidates_shown
   long [] = refl
   long (x ∷ a) = ap suc (long a)
-
-  pub shown_none : (l : List Candidate) → replicate 8 blank_candidate ≡ candidate_array n r (take 0 l)
-  unfolding candidates_shown
-  shown_none l = refl
 
   next : (a : List Candidate) (c : Candidate) → length a < 8 → set (candidate_array n r a) (length a) (candidate_shown n r c) ≡ candidate_array n r (a ++ (c ∷ []))
   next a c h =
@@ -62,24 +58,24 @@ zero_held : T (fits binary64 zero⁺)
 unfolding fits
 zero_held = tt
 
-pub zero_magnitude : (x : Float) → T (fits binary64 x) → eq x zero⁺ ≡ true → zero⁺ ≡ magnitude x
-unfolding eq magnitude
+pub zero_magnitude : (x : Float) → fits binary64 x ≡ true → eq x (of_bits binary64 0) ≡ true → of_bits binary64 0 ≡ magnitude x
+unfolding of_bits eq magnitude
 zero_magnitude nan F h = absurd (false≢true h)
 zero_magnitude (inf s) F h = absurd (false≢true h)
 zero_magnitude (fin s m e) F h =
-    whole_unique binary64 zero⁺ (fin false m e) false 0 zero_held (plain s m e F) (refl, refl)
+    whole_unique binary64 zero⁺ (fin false m e) false 0 zero_held (plain s m e (is_T F)) (refl, refl)
     (refl, eqb→eq (m * up e * 1) (0 * down e) (and_l (eqb (m * up e * 1) (0 * down e)) _ (is_T h)))
 
-pub negative_magnitude : (x : Float) → lt x zero⁺ ≡ true → neg x ≡ magnitude x
-unfolding lt neg magnitude
+pub negative_magnitude : (x : Float) → lt x (of_bits binary64 0) ≡ true → neg x ≡ magnitude x
+unfolding of_bits lt neg magnitude
 negative_magnitude nan h = absurd (false≢true h)
 negative_magnitude (inf true) h = refl
 negative_magnitude (inf false) h = absurd (false≢true h)
 negative_magnitude (fin true m e) h = refl
 negative_magnitude (fin false m e) h = let k : m * up e * 1 < 0 * down e = ltb→lt (m * up e * 1) (0 * down e) (is_T h) in absurd (lt_irrefl 0 (omega arith))
 
-pub positive_magnitude : (x : Float) → lt x zero⁺ ≡ false → eq x zero⁺ ≡ false → x ≡ magnitude x
-unfolding lt eq magnitude
+pub positive_magnitude : (x : Float) → lt x (of_bits binary64 0) ≡ false → eq x (of_bits binary64 0) ≡ false → x ≡ magnitude x
+unfolding of_bits lt eq magnitude
 positive_magnitude nan h k = refl
 positive_magnitude (inf true) h k = absurd (true≢false h)
 positive_magnitude (inf false) h k = refl

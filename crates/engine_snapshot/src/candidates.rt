@@ -15,6 +15,7 @@ use numbers::float::at_least;
 use numbers::whole::count;
 
 // All candidates share the comparable frames and the coverage; behind the last stand blank ones.
+#[tactic(auto, unfolding(engine_spec::specs::Publishing::candidates_shown), using(crate::proofs::ShownLaws::shown_more))]
 pub fn candidate_array(
     comparable: usize,
     coverage: f64,

@@ -53,6 +53,7 @@ fn magnitude_of(m: Option<f64>) -> Option<f64>
 }
 
 // |x|: the sign bit is cleared, so that either zero gives +0.
+#[tactic(auto, using(crate::proofs::ShownLaws::negative_magnitude, crate::proofs::ShownLaws::zero_magnitude, crate::proofs::ShownLaws::positive_magnitude))]
 fn magnitude(x: f64) -> f64
     ensures { result ≡ magnitude x }
 {

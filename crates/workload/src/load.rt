@@ -17,6 +17,7 @@ const ENERGY: f64 = -20.0;
 
 // Fills the slices from the seed, wholly; where it refuses, they are as they were.
 // Kept: three slices, which are filled, and which the C call lends flat.
+#[tactic(auto, using(crate::proofs::FillLaws::as_it_was))]
 pub fn fill(
     seed: u64,
     hop: f64,
@@ -43,6 +44,7 @@ pub fn fill(
 
 // i * hop of each frame: one product, and no sum that would carry an error on. So few frames are
 // floats as they are, which a plain cast takes quicker than `real` does any count.
+#[tactic(auto, using(numbers_spec::proofs::RowLaws::filling_none, numbers_spec::proofs::RowLaws::filling_all))]
 fn fill_times(times: &mut [f64], hop: f64)
     requires { length times.old ≤ frames_most }
     ensures { times.new ≡ tabulate (load_time hop) (length times.old) }
@@ -53,6 +55,7 @@ fn fill_times(times: &mut [f64], hop: f64)
 }
 
 // A value for each number drawn, in the order of the slice: band after band.
+#[tactic(auto, unfolding(workload_spec::specs::Draws::stepped), using(numbers_spec::proofs::RowLaws::filling_none, numbers_spec::proofs::RowLaws::filling_all))]
 fn fill_values(values: &mut [f32], seed: u64)
     ensures { values.new ≡ tabulate (value_at seed) (length values.old) }
 {

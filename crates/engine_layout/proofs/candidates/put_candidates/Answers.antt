@@ -1,14 +1,9 @@
-use Rattle.std.proofs.Common.{rules, ◌≡◌, sym, ap, ◌∙◌, length, get_or, add-one, arith}
+use Rattle.std.proofs.Common.{rules, ◌≡◌, sym, ap, ◌∙◌, get_or, add-one, arith}
 use Rattle.engine_spec.specs.declared.types.CandidateDiagnostics.{CandidateDiagnostics}
 use Rattle.engine_layout.specs.Layout.{candidate_of}
-use Rattle.engine_layout.specs.Written.{no_candidate, candidates_to, candidate_words}
-use Rattle.engine_layout.proofs.Laws.{none_laid}
-use Rattle.engine_layout.proofs.EightRows.{row_more, BackTo, all_back}
+use Rattle.engine_layout.specs.Written.{no_candidate, candidate_words}
+use Rattle.engine_layout.proofs.EightRows.{row_more, BackTo}
 use Rattle.engine_layout.proofs.candidates.put_candidates.Goals as goal
-
-pub loop-i-init : goal.loop-i-init
-unfolding candidates_to BackTo
-loop-i-init c = (none_laid _ _, tt)
 
 pub loop-i-preserved : goal.loop-i-preserved
 unfolding BackTo
@@ -22,11 +17,3 @@ loop-i-preserved c =
       rw add-one (row_more a.candidates a.at l.i a.words.now l.words p.new.words row.result l.invariant.0 (omega arith) (search rules) row.ensures.value p.ensures),
       rw add-one (l.invariant.1, back),
     )
-
-pub returns : goal.returns
-returns c =
-    let l = c.loop-i in
-    let a = c.args in
-    let e : l.i ≡ 8 = omega arith in
-    let h : length a.candidates ≡ 8 = search rules in
-    record { words_after = (rw e at l.invariant.0).there; back = all_back a.candidates h (rw e at l.invariant.1) }

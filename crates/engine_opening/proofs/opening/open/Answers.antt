@@ -8,11 +8,8 @@ use Rattle.engine_spec.specs.Opening.{opening}
 use Rattle.matcher_spec.specs.Index.{lent}
 use Rattle.engine_spec.proofs.Contract.{guaranteed_of}
 use Rattle.engine_opening.proofs.RoomLaws.{open_room}
-use Rattle.engine_opening.proofs.OpenLaws.{index_kept, index_filled, accepted_frames}
+use Rattle.engine_opening.proofs.OpenLaws.{index_filled, accepted_frames}
 use Rattle.engine_opening.proofs.opening.open.Goals as goal
-
-pub returns-in_err-check_opening-clause-index : goal.returns-in_err-check_opening-clause-index
-returns-in_err-check_opening-clause-index c = index_kept _ _ _ _ (sym c.in_err-check_opening.ensures)
 
 pub fill_index-accepted-requires : goal.fill_index-accepted-requires
 fill_index-accepted-requires c =
@@ -23,11 +20,6 @@ pub opened_settings-requires : goal.opened_settings-requires
 opened_settings-requires c =
     let k = open_room _ _ _ _ (sym c.in_ok-check_opening.ensures) in
     record { some = (λ h. accepted_frames _ _ c.fill_index-accepted.ensures.value h); few = k.short; few_bands = k.few }
-
-pub returns-clause-index : goal.returns-clause-index
-returns-clause-index c =
-    let e = c.fill_index-accepted.ensures in
-    index_filled _ _ _ _ (sym c.in_ok-check_opening.ensures) e.value e.fine_after e.coarse_after e.fine_energy_after e.coarse_energy_after
 
 pub returns-clause-guaranteed : goal.returns-clause-guaranteed
 unfolding opening

