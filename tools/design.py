@@ -1,8 +1,10 @@
 #!/usr/bin/env python3
-"""design.py [--list] [FOLDER]: places that docs/DESIGN-PASS.md counts, in the sources below FOLDER (default crates).
+"""design.py [--other] [--list] [FOLDER]: places that docs/DESIGN-PASS.md counts, in the sources below FOLDER (default
+crates).
 
 One line for each point with how many there are; with --list each place too, as POINT FILE:LINE what. A place is
 one to look at, found by shape alone: docs/DESIGN-PASS.md says of each whether it was changed or why it stays.
+With --other the places are found by other signs, as a test of the first way.
 """
 import argparse, collections, glob, itertools, os, re, sys
 
@@ -174,15 +176,100 @@ def point_8(folder):
     return answers, lines, every
 
 
+def other_1(files, functions):
+    """Functions whose result is a number, or a truth value that something was done: those of C names apart."""
+    for f in functions:
+        if 'extern "C"' not in f.head and re.fullmatch(r"(u8|u16|u32|u64|bool)", f.result):
+            done = f.result == "bool" and any("&mut" in t for _, t in f.parameters)
+            kinds = f.result != "bool" and re.search(r"match |if \w+\.is_\w+\(\)", f.body)
+            if done or kinds:
+                yield f.path, f.line, "%s: -> %s" % (f.name, f.result)
+
+
+def other_2(files, functions):
+    """Pairs of functions of which seven lines that follow each other are the same but for names and numbers."""
+    at = collections.defaultdict(set)
+    for i, f in enumerate(functions):
+        lines = [l.strip() for l in re.sub(r"//[^\n]*", "", f.text).split("\n") if l.strip()]
+        for k in range(len(lines) - 6):
+            seen, out = {}, []
+            for word in WORD.findall("\n".join(lines[k:k + 7])):
+                named = word not in KEYWORDS and (word[0].isalpha() or word[0].isdigit() or word[0] == "_")
+                out.append("#%d" % seen.setdefault(word, len(seen)) if named else word)
+            at[tuple(out)].add(i)
+    pairs = {p for where in at.values() for p in itertools.combinations(sorted(where), 2)}
+    for i, k in sorted(pairs):
+        f, g = functions[i], functions[k]
+        yield f.path, f.line, "%s, as %s:%d %s" % (f.name, g.path, g.line, g.name)
+
+
+def other_3(files, functions):
+    for path, text in files.items():
+        for m in re.finditer(r"^[^\n/]*(\bloop\b|\bwhile\b|\b(\w+) (\+= 1|= \2 \+ 1);)", text, re.M):
+            yield path, text.count("\n", 0, m.start(1)) + 1, m[1]
+
+
+def other_4(files, functions):
+    for path, text in files.items():
+        for m in re.finditer(r"^impl[^\n]* (Clone|Copy|PartialEq|Eq|PartialOrd|Ord|Default|Debug|Display)\b[^\n]*", text, re.M):
+            yield path, text.count("\n", 0, m.start()) + 1, m[0]
+    for f in functions:
+        if re.match(r"(is_same|same|equal|copy|clone|print|to|from|as)_|(eq|cmp|clone|fmt|from)$", f.name):
+            yield f.path, f.line, f.name
+
+
+def other_5(files, functions):
+    """More than six parameters; and what three functions of a crate ask, whatever their parameters are called."""
+    by = collections.defaultdict(set)
+    for i, f in enumerate(functions):
+        if len(f.parameters) > 6:
+            yield f.path, f.line, "%s: %d parameters" % (f.name, len(f.parameters))
+        names = {n.replace("mut ", "") for n, _ in f.parameters}
+        for kind, text in f.clauses():
+            if kind == "requires":
+                seen = {}
+                plain = re.sub(r"\b[a-z_]\w*\b", lambda m: "#%d" % seen.setdefault(m[0], len(seen)) if m[0] in names
+                               else m[0], text)
+                by[f.path.split(os.sep)[-3], re.sub(r"\.(old|now|new)\b", "", plain)].add(i)
+    for (crate, text), where in sorted(by.items()):
+        if len(where) >= 3:
+            f = functions[min(where)]
+            yield f.path, f.line, "asked by %d: %s" % (len(where), text)
+
+
+def other_6(files, functions):
+    for f in functions:
+        for (n, t), (m, u) in zip(f.parameters, f.parameters[1:]):
+            if re.match(r"&(mut )?\[", t) and u == "usize" and re.search(r"len|count|size|^n$", m):
+                yield f.path, f.line, "%s: %s with %s beside it" % (f.name, n, m)
+    for path, line, name, inside in bodies(files, "struct"):
+        if len(re.findall(r": (?:\[\w+; \w+\]|&'a \[\w+\])", inside)) >= 3:
+            yield path, line, "struct %s: rows side by side" % name
+
+
+def other_7(files, functions):
+    for path, text in files.items():
+        for m in re.finditer(r"\bdyn\b|\bfn\(|\bFn(?:Mut|Once)?\(", text):
+            yield path, text.count("\n", 0, m.start()) + 1, m[0]
+    for f in functions:
+        numbers = re.findall(r"^\s*\d+ => ", f.body, re.M)
+        if len(numbers) >= 2:
+            yield f.path, f.line, "%s: a branch for each of %d numbers" % (f.name, len(numbers))
+
+
 def main():
     parser = argparse.ArgumentParser(description=__doc__, formatter_class=argparse.RawDescriptionHelpFormatter)
     parser.add_argument("folder", nargs="?", default="crates")
     parser.add_argument("--list", action="store_true")
+    parser.add_argument("--other", action="store_true")
     given = parser.parse_args()
     if not os.path.isdir(given.folder):
         sys.exit("design.py: no folder %s" % given.folder)
     files, functions = read(given.folder)
-    for number, point in enumerate((point_1, point_2, point_3, point_4, point_5, point_6, point_7), 1):
+    ways = (point_1, point_2, point_3, point_4, point_5, point_6, point_7)
+    if given.other:
+        ways = (other_1, other_2, other_3, other_4, other_5, other_6, other_7)
+    for number, point in enumerate(ways, 1):
         places = list(point(files, functions))
         print("point %d: %d places" % (number, len(places)))
         if given.list:

@@ -134,6 +134,7 @@ pub extern "C" fn matcher_fill_index(
 }
 
 // Writes the numbers of eight candidates, five each: zeros behind the last found.
+// Kept: here and below slices of 40 numbers or more, as the C interface lends them.
 fn write_candidates(out: &mut [f64], found: &MatchResult)
     requires { 40 ≤ length out.old }
     ensures { out.new ≡ numbers_of (eight_of found.now.items) ++ drop 40 out.old }

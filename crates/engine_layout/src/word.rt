@@ -38,6 +38,8 @@ impl Word for f64 {
     }
 }
 
+// Kept: one impl for each kind of milliseconds, since one type with a parameter for its kind would
+// stand in every definition that has one.
 impl Word for RecordedMs {
     ghost word = { recorded_word };
 

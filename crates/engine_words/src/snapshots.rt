@@ -72,6 +72,8 @@ pub fn snapshot_of(words: &[u64; 76]) -> Snapshot
 }
 
 // The milestones that a snapshot shows, as an engine holds them.
+// Kept: engine_refusals has the same; to share three lines, a state's words would rest on what is
+// refused.
 fn milestones_shown(s: Snapshot) -> Milestones
     ensures { result ≡ milestones_shown s }
 {

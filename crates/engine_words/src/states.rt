@@ -13,6 +13,7 @@ use engine_spec::types::{Configuration, Engine, Last, Lock, RecordedMs, Referenc
 // How many words a state takes, the layout number with them.
 pub const STATE_WORDS: usize = 106;
 
+// Kept: here and below slices of 106 words or more, as the C interface lends them.
 pub fn write_state(words: &mut [u64], engine: Engine)
     requires { 106 ≤ length words.old }
     ensures words_after { state_in words.new ≡ engine }
