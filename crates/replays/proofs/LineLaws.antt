@@ -1,10 +1,14 @@
--- How many lines a list of so many bytes has. Assumes nothing.
-use Rattle.std.proofs.Common.{◌≡◌, ℕ, suc, ◌+◌, ◌-◌, ◌*◌, ◌/◌, ◌%◌, ◌<◌, min, ap, ◌∙◌, arith, mod-lt, inl, inr}
+-- How many lines a list of so many bytes has, and how many of some differ. Assumes nothing.
+use Rattle.std.proofs.Common.{◌≡◌, ℕ, suc, ◌+◌, ◌-◌, ◌*◌, ◌/◌, ◌%◌, ◌<◌, min, Bool, not, List, length, filter, ap, ◌∙◌, arith, mod-lt, inl, inr}
 use Rattle.std.proofs.Math.Nat.{suc-mul, mul-add-div_right, div-eq_of_lt}
 use Rattle.std.proofs.lemmas.Bool.{cases_lt}
 use Rattle.std.proofs.lemmas.Nat.{div-add-mod'}
 
--- whole ones, and one more where some bytes are left
+-- how many lines differ
+abbrev pub others : (List ℕ → Bool) → List (List ℕ) → ℕ
+others agrees l = length (filter (λ line. not (agrees line)) l)
+
+-- whole lines, and one more where some bytes are left
 pub rounded_up : (n w : ℕ) → 0 < w → (n + (w - 1)) / w ≡ n / w + min 1 (n % w)
 rounded_up n w some =
     let q = n / w in

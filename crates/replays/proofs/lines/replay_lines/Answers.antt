@@ -1,24 +1,21 @@
-use Rattle.std.proofs.Common.{◌≡◌, ℕ, suc, ◌+◌, ◌<◌, Bool, true, false, not, cond, List, [], ◌∷◌, length, filter, drop, slice_index_or, sym, ◌∙◌, arith, add-one, drop-cons, drop_of_length-le}
+use Rattle.std.proofs.Common.{◌≡◌, ℕ, suc, ◌+◌, ◌<◌, Bool, true, false, cond, List, [], ◌∷◌, length, drop, slice_index_or, sym, ◌∙◌, arith, add-one, drop-cons, drop_of_length-le}
+use Rattle.replays.proofs.LineLaws.{others}
 use Rattle.replays.proofs.lines.replay_lines.Goals as goal
 use Rattle.replays.proofs.lines.replay_lines.Goals.{then-not-agrees, else-not-agrees}
 
 module _ (agrees : List ℕ → Bool) where
-  -- how many lines differ
-  abbrev others : List (List ℕ) → ℕ
-  others l = length (filter (λ line. not (agrees line)) l)
-
   -- what differs so far, with a line, and what differs behind it
   counted_on : (v : Bool) (x : List ℕ) (rest : List (List ℕ)) (differ total : ℕ) → v ≡ agrees x
-      → differ + others (x ∷ rest) ≡ total → cond v differ (differ + 1) + others rest ≡ total
+      → differ + others agrees (x ∷ rest) ≡ total → cond v differ (differ + 1) + others agrees rest ≡ total
   counted_on true x rest differ total e h = rw (← e) at h
-  counted_on false x rest differ total e h = let k : differ + suc (others rest) ≡ total = rw (← e) at h in omega (arith, k)
+  counted_on false x rest differ total e h = let k : differ + suc (others agrees rest) ≡ total = rw (← e) at h in omega (arith, k)
 
   -- the line that follows comes off the front of what is left
   next : (l : List (List ℕ)) (i differ total : ℕ) (x : List ℕ) (v : Bool) → i < length l → x ≡ slice_index_or l i x → v ≡ agrees x
-      → differ + others (drop i l) ≡ total → cond v differ (differ + 1) + others (drop (i + 1) l) ≡ total
+      → differ + others agrees (drop i l) ≡ total → cond v differ (differ + 1) + others agrees (drop (i + 1) l) ≡ total
   next l i differ total x v k e a h = rw (add-one i) (counted_on v x _ _ _ a (rw (drop-cons l i x, ← e) at h))
 
-  none_left : (l : List (List ℕ)) (i differ total : ℕ) → drop i l ≡ [] → differ + others (drop i l) ≡ total → differ ≡ total
+  none_left : (l : List (List ℕ)) (i differ total : ℕ) → drop i l ≡ [] → differ + others agrees (drop i l) ≡ total → differ ≡ total
   none_left l i differ total e h = let k : differ + 0 ≡ total = rw e at h in omega (arith, k)
 
 pub loop-before-preserved : goal.loop-before-preserved
