@@ -13,7 +13,7 @@ pub const NO_AGE: u32 = 101;
 pub const WORDS_TOO_SHORT: u32 = 255;
 
 // 0 computed, `REREAD` a re-reading.
-// Kept: the C interface's numbers. `as` or a `From` would have them in engine_spec, which knows no C and has no code.
+// Kept: the C interface's numbers; `as` and `From` would have them in engine_spec, which knows no C.
 #[tactic(auto, unfolding(crate::specs::Codes::kind_code))]
 pub fn code_of(answer: AnswerKind) -> u32
     ensures { result ≡ kind_code answer }

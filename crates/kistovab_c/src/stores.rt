@@ -14,7 +14,7 @@ pub extern "C" fn kistovab_store_words() -> usize
 }
 
 // A refusal leaves the store as it is.
-// Kept: here and below slices of words and a number for a name, as the C interface has them; the header has these names.
+// Kept: here and below words, and a number for a name, as the C interface has them; the header has these names.
 #[unsafe(no_mangle)]
 pub extern "C" fn kistovab_keep(state: &[u64], name: usize, store: &mut [u64]) -> u32
     ensures value { result ≡ keep_code (length state.now) name (length store.old) }
