@@ -1,6 +1,6 @@
 // References and windows from a few numbers, so that a list of sessions stays short. The driver in
 // compare/ makes the same ones.
-ghost use Rattle.std.specs.Prelude.{◌<◌};
+ghost use Rattle.std.specs.Prelude.{◌<◌, ◌≡◌, max};
 
 use replays::sound::{fill_bands, value_at};
 
@@ -18,14 +18,17 @@ pub struct Heard {
 // The sound of a reference, which repeats every `period` frames.
 #[derive(Clone, Copy)]
 pub struct Sound {
-    seed: u64,
-    period: usize,
+    pub seed: u64,
+    pub period: usize,
     ghost repeats: { 0 < period },
 }
 
 impl Sound {
     // A period of no frames counts as one of 1.
-    pub fn new(seed: u64, period: usize) -> Sound {
+    pub fn new(seed: u64, period: usize) -> Sound
+        ensures seed { result.seed ≡ seed }
+        ensures period { result.period ≡ max period 1 }
+    {
         Sound {
             seed,
             period: period.max(1),

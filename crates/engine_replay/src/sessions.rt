@@ -48,6 +48,15 @@ impl Sessions {
         self.opening = Some(o);
         self.host.submit(o, Submission::of(line))
     }
+
+    // Whether a line says what is answered to it. In what it does is kept, to be written.
+    fn compared(&mut self, line: &[u8; LINE], found: Answers) -> bool
+        ensures value { result ≡ in_all (agreement_with line.now found) }
+        ensures kept { self.new.agreement ≡ agreement_with line.now found }
+    {
+        self.agreement = Agreement::with(line, found);
+        self.agreement.in_all()
+    }
 }
 
 impl Replayed<LINE> for Sessions {
@@ -55,8 +64,7 @@ impl Replayed<LINE> for Sessions {
 
     fn agrees(&mut self, line: &[u8; LINE]) -> bool {
         let found = self.answers_to(line);
-        self.agreement = Agreement::with(line, found);
-        self.agreement.in_all()
+        self.compared(line, found)
     }
 
     // In what it differs.

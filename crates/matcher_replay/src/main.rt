@@ -10,8 +10,9 @@ mod digest;
 mod small;
 mod sound;
 
-ghost use Rattle.std.specs.Prelude.{ℕ, ◌≡◌, List, IfOk};
-ghost use Rattle.std.specs.Io.KnownBytes.{Consumes};
+ghost use Rattle.std.specs.Prelude.{ℕ, ◌≡◌, ◌<◌, List, IfOk, length};
+ghost use Rattle.std.specs.Io.KnownBytes.{Consumes, IsAtEnd};
+ghost use Rattle.hexadecimal.specs.Hexadecimal.{list_most};
 ghost use Rattle.std.proofs.Common.{rules};
 ghost use Rattle.matcher_replay.specs.Agreement.{agrees_of, differing, lines};
 
@@ -52,7 +53,7 @@ fn main(rt: HostRuntime) -> io::Result<()> {
 // Reads the list and replays it. The number of each line that differs is written, and one that
 // cannot be counts all the same.
 fn replay<R: Read>(input: &mut R, out: Stdout) -> io::Result<Count>
-    ensures { IfOk result (λ count. (list : List ℕ) × Consumes (R.remaining input.old) (R.remaining input.new) list × (count.lines ≡ lines list) × (count.differ ≡ differing (lines list) list)) }
+    ensures { IfOk result (λ count. (list : List ℕ) × Consumes (R.remaining input.old) (R.remaining input.new) list × (length list < list_most → IsAtEnd (R.remaining input.new)) × (count.lines ≡ lines list) × (count.differ ≡ differing (lines list) list)) }
 {
     replay_input(&mut Matcher, input, out)
 }

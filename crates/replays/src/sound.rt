@@ -1,6 +1,6 @@
 // Values and times from a few numbers, so that a list of cases stays short. The driver in compare/
 // makes the same ones.
-ghost use Rattle.std.specs.Prelude.{ℕ, ◌≡◌, ◌/◌, ◌%◌, ◌<◌, Float, length};
+ghost use Rattle.std.specs.Prelude.{ℕ, ◌≡◌, ◌/◌, ◌%◌, ◌<◌, Float, get_or, length};
 ghost use Rattle.numbers_spec.specs.Rows.{tabulate};
 ghost use Rattle.replays.specs.Sounds.{times_from, value_at};
 
@@ -28,7 +28,8 @@ pub fn fill_times(times: &mut [f64], start: f64, hop: f64)
 pub fn fill_bands<F: Fn(usize, usize) -> f32>(values: &mut [f32], n: usize, at: F)
     requires some { 0 < n }
     requires callable { (i : ℕ) → i < length values.old → F.pre at (i / n) (i % n) }
-    ensures { (f : ℕ → ℕ → Float) → ((i : ℕ) (x : Float) → i < length values.old → F.post at (i / n) (i % n) x → x ≡ f (i / n) (i % n)) → values.new ≡ tabulate (λ (i : ℕ). f (i / n) (i % n)) (length values.old) }
+    ensures each { (d : Float) (i : ℕ) → i < length values.old → F.post at (i / n) (i % n) (get_or values.new i d) }
+    ensures bands { (f : ℕ → ℕ → Float) → ((i : ℕ) (x : Float) → i < length values.old → F.post at (i / n) (i % n) x → x ≡ f (i / n) (i % n)) → values.new ≡ tabulate (λ (i : ℕ). f (i / n) (i % n)) (length values.old) }
 {
     for i in 0..values.len() {
         values[i] = at(i / n, i % n);

@@ -1,12 +1,12 @@
-use Rattle.std.proofs.Common.{arith}
-use Rattle.numbers_spec.proofs.RowLaws.{filling_none, filling_more, filling_all}
+use Rattle.std.proofs.Common.{ℕ, ◌/◌, ◌%◌, length, sym, ◌∙◌, arith}
+use Rattle.std.specs.Float.{nan}
+use lib.Seq.{ext_get_or}
+use Rattle.numbers_spec.specs.Rows.{tabulate}
+use Rattle.numbers_spec.proofs.RowLaws.{length_tabulate, get_d_tabulate}
 use Rattle.replays.proofs.sound.fill_bands.Goals as goal
 
-pub loop-i-init : goal.loop-i-init
-loop-i-init g c f says = filling_none _ _
-
-pub loop-i-preserved : goal.loop-i-preserved
-loop-i-preserved g c f says = filling_more (c.loop-i.invariant f says) (says _ _ (omega arith) c.at.ensures) (omega arith)
-
-pub returns : goal.returns
-returns g c f says = filling_all (c.loop-i.invariant f says) (omega arith)
+pub returns-clause-bands : goal.returns-clause-bands
+returns-clause-bands g c f says =
+    let at = λ (k : ℕ). f (k / c.args.n) (k % c.args.n) in
+    let n = length c.args.values.now in
+    ext_get_or nan _ (tabulate at n) (omega (arith, length_tabulate at n)) (λ k b. says k _ (omega arith) (c.loop-i.invariant nan k (omega arith)) ∙ sym (get_d_tabulate at n k nan (omega arith)))
