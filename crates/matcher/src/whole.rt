@@ -11,7 +11,7 @@ ghost use Rattle.matcher_spec.specs.Scores.{correlations};
 ghost use Rattle.matcher_spec.specs.Search.{FilledQuery, WorkRoom, candidates_at, coarse_scores, separation, whole_found, whole_search};
 
 use crate::fronts::{front_bands, query_frames, query_start};
-use matcher_bands::energy::{fill_energies, reduce_bands};
+use matcher_bands::energy::reduce_with_energies;
 use matcher_candidates::candidate::{best_candidate, score_places};
 use matcher_candidates::comparison::Comparison;
 use matcher_filling::query::fill_query;
@@ -150,10 +150,7 @@ fn average_query(averages: &mut [f32], energy: &mut [f64], query: &Bands<'_>)
     ensures holds { Holds query.now.bands (query.now.count / 4) averages.new energy.new }
     ensures value { lent_bands query.now.bands (query.now.count / 4) averages.new energy.new ≡ reduced query.now.bands (bands_in query.now) }
 {
-    let size = query.count / 4;
-    let end = query.bands * size;
-    reduce_bands(averages, query.values, query.bands, query.count);
-    fill_energies(energy, &averages[..end], query.bands, size);
+    reduce_with_energies(averages, energy, query.values, query.bands, query.count);
 }
 
 // How many averaged places the peaks are apart.

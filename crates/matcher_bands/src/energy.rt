@@ -1,6 +1,6 @@
 // Energies of bands, and bands averaged by fours.
 ghost use Rattle.std.specs.Prelude.{ℕ, ◌+◌, ◌-◌, ◌*◌, ◌/◌, ◌<◌, ◌≤◌, drop, length, [], ◌++◌, ◌≡◌};
-ghost use Rattle.matcher_spec.specs.Energy.{all_averages, all_energies, average, averages, bands_of, energies, whole_energies};
+ghost use Rattle.matcher_spec.specs.Energy.{Holds, all_averages, all_energies, average, averages, bands_of, energies, whole_energies};
 ghost use Rattle.numbers_spec.specs.Arithmetic.{zero⁺};
 ghost use Rattle.numbers_spec.specs.Rows.{tabulate};
 ghost use Rattle.matcher_spec.specs.Limits.{bands_most};
@@ -18,8 +18,8 @@ fn fill_energy(row: &mut [f64], values: &[f32])
 }
 
 // Fills each band's row in its own stretch of the slice; what is past the last stays.
-// Kept: slices with bands and n, here and below: a `Bands` holds values and energies, both to be
-// read, and these functions fill one of the two, or ask for one alone.
+// Kept: values, bands and n one by one, here and below. A `Bands` has energies besides, which these
+// functions fill or don't ask for; a struct of the three alone would be built for each of four calls.
 pub fn fill_energies(energy: &mut [f64], values: &[f32], bands: usize, n: usize)
     requires fact_1 { bands * n ≤ length values.now }
     requires fact_2 { bands * (n + 1) ≤ length energy.old }
@@ -69,4 +69,23 @@ pub fn reduce_bands(out: &mut [f32], values: &[f32], bands: usize, n: usize)
     ensures { out.new ≡ all_averages bands n values.now ++ drop (bands * (n / 4)) out.old }
 {
     fill_bands(out, values, bands, n, n / 4, fill_averages);
+}
+
+// Fills each band's averages and, from those, their energies, each in its own stretch of the two
+// slices; what is past the last stays.
+pub fn reduce_with_energies(
+    out: &mut [f32],
+    energy: &mut [f64],
+    values: &[f32],
+    bands: usize,
+    n: usize,
+)
+    requires values_room { bands * n ≤ length values.now }
+    requires holds { Holds bands (n / 4) out.old energy.old }
+    ensures out_after { out.new ≡ all_averages bands n values.now ++ drop (bands * (n / 4)) out.old }
+    ensures energy_after { energy.new ≡ all_energies bands (n / 4) (all_averages bands n values.now) ++ drop (bands * (n / 4 + 1)) energy.old }
+{
+    let size = n / 4;
+    reduce_bands(out, values, bands, n);
+    fill_energies(energy, &out[..bands * size], bands, size);
 }

@@ -60,6 +60,7 @@ fn is_valid(v: f32) -> bool
 
 // Whether all values are finite and not below zero. It goes on after one that is not, so that the
 // pass has no branch and becomes vector code.
+// Kept: a fold, since by `all_by` a value took 0.74 ns for 0.70.
 pub fn are_valid(values: &[f32]) -> bool
     ensures { result ≡ valid_values values.now }
 {

@@ -1,12 +1,12 @@
 // The index: what opening fills from a reference, and what a search knows of it.
-ghost use Rattle.std.specs.Prelude.{◌+◌, ◌*◌, ◌/◌, ◌≤◌, drop, length, true, ◌++◌, ◌≡◌};
-ghost use Rattle.matcher_spec.specs.Energy.{all_averages, all_energies, Holds};
+ghost use Rattle.std.specs.Prelude.{◌*◌, ◌/◌, length, true, ◌≡◌};
+ghost use Rattle.matcher_spec.specs.Energy.{Holds};
 ghost use Rattle.matcher_spec.specs.Index.{accepts_reference, filled, matcher_of};
 ghost use Rattle.matcher_spec.specs.Centring.{wide_hop};
 
 use crate::centred::fill_centred;
 use matcher_bands::centring::radius;
-use matcher_bands::energy::{fill_energies, reduce_bands};
+use matcher_bands::energy::reduce_with_energies;
 use matcher_bands::timeline::{are_valid, is_regular};
 use matcher_spec::lent::Features;
 
@@ -16,19 +16,6 @@ pub fn accepts_reference(hop: f64, reference: &Features<'_>) -> bool
     ensures { result ≡ accepts_reference hop reference.now.bands reference.now.times reference.now.values }
 {
     is_regular(reference.times, hop) & ((reference.bands > 0) & are_valid(reference.values))
-}
-
-// The coarse half of the index: each band averaged by fours, and its energies.
-// Kept: slices with bands and n, since two of the slices are filled, and a `Bands` is to be read.
-fn fill_coarse(coarse: &mut [f32], energy: &mut [f64], fine: &[f32], bands: usize, n: usize)
-    requires n_in_bounds { bands * n ≤ length fine.now }
-    requires holds { Holds bands (n / 4) coarse.old energy.old }
-    ensures coarse_after { coarse.new ≡ all_averages bands n fine.now ++ drop (bands * (n / 4)) coarse.old }
-    ensures energy_after { energy.new ≡ all_energies bands (n / 4) (all_averages bands n fine.now) ++ drop (bands * (n / 4 + 1)) energy.old }
-{
-    let size = n / 4;
-    reduce_bands(coarse, fine, bands, n);
-    fill_energies(energy, &coarse[..bands * size], bands, size);
 }
 
 // Fills the fronts of the four buffers from the reference, and says so. Where the reference is
@@ -58,6 +45,6 @@ pub fn fill_index(
     let bands = reference.bands;
     let n = reference.times.len();
     fill_centred(fine, fine_energy, reference, radius(hop), 0);
-    fill_coarse(coarse, coarse_energy, &fine[..bands * n], bands, n);
+    reduce_with_energies(coarse, coarse_energy, &fine[..bands * n], bands, n);
     true
 }

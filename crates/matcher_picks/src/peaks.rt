@@ -76,10 +76,7 @@ fn beats(scores: &[f64], best: Option<usize>, i: usize) -> bool
     requires i_in_bounds { i < length scores.now }
     ensures { cond result i (unwrap_or best (length scores.now)) ≡ better scores.now (unwrap_or best (length scores.now)) i }
 {
-    match best {
-        None => true,
-        Some(b) => scores[i] > scores[b],
-    }
+    best.is_none_or(|b| scores[i] > scores[b])
 }
 
 // Whether one of the places taken is nearer than the separation to i.

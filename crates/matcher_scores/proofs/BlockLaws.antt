@@ -33,26 +33,19 @@ filling_rest {A} {f} d i m z p j h =
 abbrev pub from : {A : Type 0} → List A → ℕ → List A
 from l at = take (length l - at) (drop at l)
 
-from_at : {A : Type 0} (l : List A) (at i : ℕ) (z : A) → get_or (from l at) i z ≡ get_or l (at + i) z
-from_at l at i z = ap (λ (x : List _). get_or x i z) (rest l at) ∙ get_or-drop at l i z
-
 -- ---- what was written to a row's front, where it is read
 front_at : {A : Type 0} (k i : ℕ) (row front : List A) (z : A) → i < length front → get_or (put_mid 0 k row front) i z ≡ get_or front i z
 front_at k i row front z h = get_or-append front (drop k row) z i h
 
 -- ---- a block
 module _ (reference energy query : List Float) (floor whole : Float) where
-  -- what the band adds, where reference and energies begin at the place `at`
-  term_from : (at i : ℕ) → band_term (from reference at) (from energy at) query floor whole i ≡ band_term reference energy query floor whole (at + i)
-  unfolding band_term
-  term_from at i =
-      let row = ap (drop i) (rest reference at) ∙ drop-drop i at reference in
-      let end = from_at energy at (i + length query) nan ∙ ap (λ (j : ℕ). get_or energy j nan) (sym (add_assoc at i (length query))) in
-      (λ j. dot (take (length query) (row j)) query ⊘ root_of (whole ⊗ at_least floor (end j ⊖ from_at energy at i nan j)))
+  -- the dot product of the band, where the reference begins at the place `at`
+  dot_from : (at i : ℕ) → dot (take (length query) (drop i (from reference at))) query ≡ dot (take (length query) (drop (at + i) reference)) query
+  dot_from at i = ap (λ (row : List Float). dot (take (length query) row) query) (ap (drop i) (rest reference at) ∙ drop-drop i at reference)
 
   -- The passes wrote to the fronts of the working rows: the quotient of what they wrote is what the band adds.
   pub quotient_is : (at k i : ℕ) (before₁ before₂ before₃ : List Float) {n m : ℕ} {products roots dotted : List Float}
-      → products ≡ tabulate (λ (j : ℕ). whole ⊗ at_least floor (get_or (from energy at) (j + length query) nan ⊖ get_or (from energy at) j nan)) n
+      → products ≡ tabulate (λ (j : ℕ). whole ⊗ at_least floor (get_or energy (at + j + length query) nan ⊖ get_or energy (at + j) nan)) n
       → roots ≡ roots_of (take k (put_mid 0 k before₁ products))
       → dotted ≡ tabulate (λ (j : ℕ). dot (take (length query) (drop j (from reference at))) query) m
       → i < k → i < n → i < m → i < length roots
@@ -61,8 +54,8 @@ module _ (reference energy query : List Float) (floor whole : Float) where
   quotient_is at k i b₁ b₂ b₃ {n} {m} {products} {roots} {dotted} p q d hk hn hm hr =
       let product = get_or-take k _ i nan hk ∙ front_at k i b₁ products nan (rw (row_length _ n p) hn) ∙ row_at _ n i nan p hn in
       let root = front_at k i b₃ roots nan hr ∙ ap (λ (l : List Float). get_or l i nan) q ∙ root_at (take k (put_mid 0 k b₁ products)) i ∙ ap root_of product in
-      let quotient = front_at k i b₂ dotted nan (rw (row_length _ m d) hm) ∙ row_at _ m i nan d hm in
-      (λ j. quotient j ⊘ root j) ∙ term_from at i
+      let quotient = front_at k i b₂ dotted nan (rw (row_length _ m d) hm) ∙ row_at _ m i nan d hm ∙ dot_from at i in
+      (λ j. quotient j ⊘ root j)
 
 -- the next block was lent, and came back with the band's terms added
 pub block_more : (t : ℕ → Float) (scores : List Float) (low i end : ℕ) {past : ℕ} {row part : List Float} → let added = (λ (k : ℕ). get_or scores k nan ⊕ t (low + k)) in Filling added scores i row

@@ -1,8 +1,9 @@
 // One band of several, and a band of the reference with the query's.
-ghost use Rattle.std.specs.Prelude.{suc, ◌<◌, length, ◌≡◌};
+ghost use Rattle.std.specs.Prelude.{suc, ◌+◌, ◌<◌, length, ◌≡◌};
 ghost use Rattle.numbers_spec.specs.Rows.{row};
 
 use matcher_spec::lent::Bands;
+use numbers::float::at_least;
 
 // A band's values, and their energies.
 #[derive(Drop)]
@@ -38,4 +39,17 @@ pub struct Pair<'a> {
     pub floor: f64,
     pub whole: f64,
     ghost longer: { length reference.now < length energy.now },
+}
+
+impl<'a> Pair<'a> {
+    ghost use Rattle.matcher_scores.specs.Blocks.{product_of};
+
+    // What stands under the root at place i: the query's energy times the reference's over its frames.
+    pub fn product(&self, i: usize) -> f64
+        requires { i + length self.now.query.now < length self.now.energy.now }
+        ensures { result ≡ product_of self.now i }
+    {
+        let end = i + self.query.len();
+        self.whole * at_least(self.floor, self.energy[end] - self.energy[i])
+    }
 }

@@ -5,11 +5,12 @@ ghost use Rattle.std.specs.Prelude.{ℕ, ◌+◌, ◌<◌, ◌≤◌, get_or, le
 ghost use Rattle.std.specs.Float.{nan};
 ghost use Rattle.numbers_spec.specs.Rows.{tabulate};
 ghost use Rattle.matcher_scores.specs.Blocks.{block, term_of};
-ghost use Rattle.numbers_spec.specs.Arithmetic.{◌⊕◌, ◌⊖◌, ◌⊗◌, ◌⊘◌, at_least};
+ghost use Rattle.numbers_spec.specs.Arithmetic.{◌⊕◌, ◌⊘◌};
 
 use crate::bands::Pair;
 use matcher_dots::tiles::{TILE, dots};
-use numbers::float::{at_least, widen};
+use numbers::float::widen;
+use numbers_rows::passes::fill_by;
 use numbers_rows::root_row::root_row;
 
 // The most places of a block: few enough that the working rows stay in the nearest cache, and a
@@ -42,18 +43,11 @@ impl Rows {
         requires within { at + length scores.old + length pair.now.query.now ≤ length pair.now.reference.now + 1 }
         ensures { scores.new ≡ tabulate (λ (i : ℕ). get_or scores.old i nan ⊕ term_of pair.now (at + i)) (length scores.old) }
     {
-        let count = pair.query.len();
-        let k = padded(scores.len(), at, count, pair.reference.len());
+        let k = padded(scores.len(), at, pair.query.len(), pair.reference.len());
         let dotted = &mut self.dotted[..];
         let products = &mut self.products[..];
         let roots = &mut self.roots[..];
-        fill_products(
-            &mut products[..k],
-            &pair.energy[at..],
-            count,
-            pair.floor,
-            pair.whole,
-        );
+        fill_by(&mut products[..k], |i| pair.product(at + i));
         root_row(&mut roots[..k], &products[..k]);
         dots(&mut dotted[..k], &pair.reference[at..], pair.query);
         add_quotients(scores, dotted, roots);
@@ -68,18 +62,6 @@ fn padded(m: usize, at: usize, count: usize, frames: usize) -> usize
     let full = m.next_multiple_of(TILE);
     let spare = frames - (at + (m - 1) + count);
     if full - m <= spare { full } else { m }
-}
-
-// What stands under the root at each place: the query's energy times the reference's over `count`
-// frames.
-#[tactic(auto, using(crate::proofs::BlockLaws::fillings))]
-fn fill_products(products: &mut [f64], energy: &[f64], count: usize, floor: f64, whole: f64)
-    requires { length products.old + count ≤ length energy.now }
-    ensures { products.new ≡ tabulate (λ (i : ℕ). whole ⊗ at_least floor (get_or energy.now (i + count) nan ⊖ get_or energy.now i nan)) (length products.old) }
-{
-    for i in 0..products.len() {
-        products[i] = whole * at_least(floor, energy[i + count] - energy[i]);
-    }
 }
 
 // Adds each dot product over its root.

@@ -105,7 +105,7 @@ fn nearest(sig: u64, shift: u64) -> u64
 fn sign_bit(minus: bool) -> u64
     ensures { result ≡ (if minus then 2147483648 else 0) }
 {
-    if minus { 0x8000_0000 } else { 0 }
+    u64::from(minus) << 31
 }
 
 // The least normal f32, 2 ^ -126, and the largest.

@@ -80,8 +80,8 @@ fn root_digits(n: Normal) -> u64
 }
 
 // The whole number nearest to the root of n, from a guess c.
-// Kept: n and its facts one by one, since with a struct of them the proof of `polish`, which is found
-// by search, is not found any more.
+// Kept: n and its facts one by one, since with a struct of them the proof of `polish`, which needs c's
+// bound too, did not close, neither by search nor by hand.
 fn near_root(c: u64, n: u128) -> u64
     requires c_some { 0 < c }
     requires c_most { c ≤ 2 ^ 53 }
@@ -141,7 +141,7 @@ fn polish(c: u64, n: u128) -> Option<u64>
 fn one_if_above(a: u64, b: u64) -> u64
     ensures { (result ≡ (if nat_lt b a then 1 else 0)) × (result ≤ 1) }
 {
-    if a > b { 1 } else { 0 }
+    u64::from(a > b)
 }
 
 // The whole number nearest to the root of n, from the root without its fraction.

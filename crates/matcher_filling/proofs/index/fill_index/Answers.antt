@@ -35,7 +35,7 @@ returns c =
     record {
       value = sym c.if-not-accepts_reference.false ∙ c.accepts_reference.ensures;
       fine_after = front_written filled.new.values a.fine.now (w.bands * n) (omega arith) whole.0 filled.ensures.values_rest;
-      coarse_after = front_filled averages a.coarse.now (w.bands * (n / 4)) (rw (bands, frames, whole.0) at c.fill_coarse.ensures.coarse_after) c.fill_coarse.auto.coarse (omega arith);
+      coarse_after = front_filled averages a.coarse.now (w.bands * (n / 4)) (rw (bands, frames, whole.0) at c.reduce_with_energies.ensures.out_after) c.reduce_with_energies.auto.out (omega arith);
       fine_energy_after = front_written filled.new.energy a.fine_energy.now (w.bands * (n + 1)) (omega arith) whole.1 filled.ensures.energy_rest;
-      coarse_energy_after = front_filled (all_energies w.bands (n / 4) averages) a.coarse_energy.now (w.bands * (n / 4 + 1)) (rw (bands, frames, whole.0) at c.fill_coarse.ensures.energy_after) c.fill_coarse.auto.energy (omega arith);
+      coarse_energy_after = front_filled (all_energies w.bands (n / 4) averages) a.coarse_energy.now (w.bands * (n / 4 + 1)) (rw (bands, frames, whole.0) at c.reduce_with_energies.ensures.energy_after) c.reduce_with_energies.auto.energy (omega arith);
     }
