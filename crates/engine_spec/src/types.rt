@@ -98,7 +98,7 @@ pub struct CandidateDiagnostics {
     pub combined_dense_score: f64,
 }
 
-#[derive(Clone, Copy)]
+#[derive(Clone, Copy, Default)]
 pub struct Diagnostics {
     pub query_duration_ms: f64,
     pub active_frame_fraction: f64,
