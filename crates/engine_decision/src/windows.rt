@@ -12,6 +12,7 @@ use engine_spec::types::{Engine, Last, Lock, RecordedMs, Settings};
 use matcher_bands::timeline::accepts_timeline;
 
 // Whether the window is a re-reading.
+// Kept: the fact, see `Window`.
 pub fn is_reread(settings: Settings, last: Last, window: &Window<'_>) -> bool
     requires { 0 < length window.now.times }
     ensures { result ≡ (last.has_snapshot && rereads settings last.endpoint_ms window.now) }

@@ -46,6 +46,7 @@ pub fn comparable_frames(hop: f64, window: &Window<'_>) -> usize
 }
 
 // The part of the window that centring leaves, by its duration.
+// Kept: the fact, see `Window`.
 pub fn coverage(window: &Window<'_>) -> f64
     requires { 0 < length window.now.times }
     ensures { result ≡ coverage window.now }
