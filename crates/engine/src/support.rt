@@ -26,8 +26,5 @@ pub fn support_age(engine: Engine) -> Result<Option<f64>, Refusal>
 fn coast_shown(s: Snapshot) -> Option<f64>
     ensures { result ≡ coast_shown s }
 {
-    if matches!(s.state, State::Locked) {
-        return Some(s.diagnostics.spectral.coast_ms);
-    }
-    None
+    matches!(s.state, State::Locked).then_some(s.diagnostics.spectral.coast_ms)
 }

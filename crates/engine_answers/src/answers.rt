@@ -49,6 +49,7 @@ fn moved(endpoint: RecordedMs, old: Option<Estimate>) -> Option<Estimate>
 }
 
 // A computed answer, and the one place where the next engine is made.
+// Kept: both facts, see `Window`.
 #[tactic(auto, unfolding(engine_spec::specs::Submitting::computed_from))]
 pub fn computed_from(engine: Engine, window: &Window<'_>, clock: ClockMs, d: &Decision) -> Submitted
     requires some_frames { 0 < length window.now.times }

@@ -1,17 +1,14 @@
 // A fresh engine, and what stands where there is none.
 ghost use Rattle.std.specs.Prelude.{◌<◌, ◌≤◌, length, ◌≡◌};
 ghost use Rattle.engine_spec.specs.Opening.{blank_snapshot, fresh_engine, with_index, without_index};
-ghost use Rattle.engine_spec.specs.Milestones.{no_milestones};
 ghost use Rattle.matcher_spec.specs.Limits.{frames_most, bands_most};
 
 use engine_decision::windows::no_lock;
-use engine_snapshot::candidates::blank_candidate;
 use engine_spec::types::{
     Configuration, Diagnostics, Engine, Last, LockPhase, Milestones, ReferenceMs, Settings,
-    Snapshot, SpectralDiagnostics, Stage, State,
+    Snapshot, Stage, State,
 };
 use matcher_spec::lent::Features;
-use matcher_spec::limits::CANDIDATES_MOST;
 
 // No endpoint, snapshot, place or milestone.
 #[tactic(auto, unfolding(engine_spec::specs::Opening::fresh_engine))]
@@ -22,7 +19,7 @@ pub fn fresh_engine(configuration: Configuration, settings: Settings) -> Engine
         configuration,
         settings,
         lock: no_lock(),
-        milestones: no_milestones(),
+        milestones: Milestones::default(),
         last: Last {
             endpoint_ms: None,
             has_snapshot: false,
@@ -63,7 +60,6 @@ pub fn without_index(hop: f64) -> Settings
 pub fn blank_snapshot() -> Snapshot
     ensures { result ≡ blank_snapshot }
 {
-    let diagnostics = blank_diagnostics();
     Snapshot {
         state: State::Ready,
         phase: LockPhase::None,
@@ -71,60 +67,9 @@ pub fn blank_snapshot() -> Snapshot
         estimate: None,
         withhold_reason: None,
         confidence: 0.0,
-        diagnostics,
+        diagnostics: Diagnostics::default(),
         first_provisional_lock_elapsed_ms: None,
         confirmed_lock_elapsed_ms: None,
         final_lock_elapsed_ms: None,
-    }
-}
-
-// Its diagnostics.
-#[tactic(auto, unfolding(engine_spec::specs::Opening::blank_snapshot))]
-fn blank_diagnostics() -> Diagnostics
-    ensures { result ≡ blank_snapshot.diagnostics }
-{
-    let spectral = blank_spectral();
-    let candidates = [blank_candidate(); CANDIDATES_MOST];
-    Diagnostics {
-        query_duration_ms: 0.0,
-        active_frame_fraction: 0.0,
-        coarse_ambiguous: false,
-        dense_margin: 0.0,
-        offset_stability_ms: None,
-        track_innovation_ms: None,
-        track_count: 0,
-        offset_tracker_confirmed: false,
-        offset_tracker_stable: false,
-        candidate_count: 0,
-        candidates,
-        spectral,
-    }
-}
-
-// What it shows of a search.
-#[tactic(auto, unfolding(engine_spec::specs::Opening::blank_snapshot))]
-fn blank_spectral() -> SpectralDiagnostics
-    ensures { result ≡ blank_snapshot.diagnostics.spectral }
-{
-    SpectralDiagnostics {
-        global_search: false,
-        correlation: 0.0,
-        competing_peak_margin: None,
-        first_half_correlation: 0.0,
-        second_half_correlation: 0.0,
-        recent_correlation: 0.0,
-        fresh_evidence_ms: 0.0,
-        coast_ms: 0.0,
-    }
-}
-
-// None is reached.
-fn no_milestones() -> Milestones
-    ensures { result ≡ no_milestones }
-{
-    Milestones {
-        first_provisional_ms: None,
-        confirmed_ms: None,
-        final_ms: None,
     }
 }

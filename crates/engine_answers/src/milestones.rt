@@ -33,10 +33,7 @@ pub fn stamp(m: Milestones, k: Reached, clock: ClockMs) -> Milestones
 fn stamped_once(there: bool, old: Option<ClockMs>, clock: ClockMs) -> Option<ClockMs>
     ensures { result ≡ stamped_once there old clock }
 {
-    if !there {
-        return old;
-    }
-    old.or(Some(clock))
+    old.or(there.then_some(clock))
 }
 
 // Confirmed takes the clock's reading together with final, even where it has one: only a state made

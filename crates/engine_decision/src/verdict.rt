@@ -126,10 +126,7 @@ fn off_track_reason(found: &MatchResult) -> WithholdReason
 fn off_track_offset(confirmed: bool, pending: Option<Hypothesis>) -> Option<f64>
     ensures { result ≡ cond confirmed None (offset_of pending) }
 {
-    if confirmed {
-        return None;
-    }
-    pending.map(|held| held.offset_ms)
+    pending.filter(|_| !confirmed).map(|held| held.offset_ms)
 }
 
 fn on_track_state(last: bool) -> State
@@ -145,11 +142,7 @@ fn on_track_state(last: bool) -> State
 fn on_track_reason(supported: bool) -> Option<WithholdReason>
     ensures { result ≡ cond supported None (Some reason.WeakAlignmentPeak) }
 {
-    if supported {
-        None
-    } else {
-        Some(WithholdReason::WeakAlignmentPeak)
-    }
+    (!supported).then_some(WithholdReason::WeakAlignmentPeak)
 }
 
 // Failed without index; else Lost once a lock was confirmed, and Listening before.

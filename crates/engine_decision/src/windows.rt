@@ -12,14 +12,15 @@ use engine_spec::types::{Engine, Last, Lock, RecordedMs, Settings};
 use matcher_bands::timeline::accepts_timeline;
 
 // Whether the window is a re-reading.
+// Kept: the fact, see `Window`.
 pub fn is_reread(settings: Settings, last: Last, window: &Window<'_>) -> bool
     requires { 0 < length window.now.times }
     ensures { result ≡ (last.has_snapshot && rereads settings last.endpoint_ms window.now) }
 {
-    match last.endpoint_ms {
-        Some(endpoint) => last.has_snapshot && rereads_from(settings, endpoint, window),
-        None => false,
-    }
+    matches!(
+        last.endpoint_ms,
+        Some(endpoint) if last.has_snapshot && rereads_from(settings, endpoint, window)
+    )
 }
 
 // The lock that a window starts from: none after a jump.

@@ -61,14 +61,11 @@ fn is_current(now: RecordedMs, last: RecordedMs) -> bool
 fn first_evidence(pending: Option<Hypothesis>, offset: f64, now: RecordedMs) -> RecordedMs
     ensures { result ≡ first_evidence pending offset now }
 {
-    let Some(held) = pending else {
-        return now;
-    };
-    if is_same_place(held.offset_ms, offset) & is_current(now, held.last_evidence_ms) {
-        held.first_evidence_ms
-    } else {
-        now
-    }
+    pending
+        .filter(|held| {
+            is_same_place(held.offset_ms, offset) & is_current(now, held.last_evidence_ms)
+        })
+        .map_or(now, |held| held.first_evidence_ms)
 }
 
 // A search that does not pass holds pending where its best is at the same place, unambiguous, and

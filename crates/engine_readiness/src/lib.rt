@@ -24,6 +24,7 @@ fn count_active(energies: &[f64], threshold: f64) -> usize
 }
 
 // The part of the frames that are active.
+// Kept: the fact, see `Window`.
 pub fn active_fraction(configuration: Configuration, window: &Window<'_>) -> f64
     requires { length window.now.times ≤ length window.now.energies }
     ensures { result ≡ active_fraction configuration window.now }

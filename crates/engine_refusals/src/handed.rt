@@ -7,7 +7,7 @@ ghost use Rattle.matcher_spec.specs.Limits.{window_most, bands_most};
 use crate::ranges::{are_near, are_near_or_not_finite, are_valid_energies, is_hop};
 use crate::states::{are_counts, is_valid_configuration, is_valid_engine};
 use engine_spec::lent::{Submission, Window};
-use engine_spec::types::{ClockMs, Configuration, Engine, Refusal, Settings};
+use engine_spec::types::{Configuration, Engine, Refusal, Settings};
 use matcher_bands::timeline::are_valid;
 use matcher_spec::lent::{Features, Index};
 use matcher_spec::limits::{BANDS_MOST, WINDOW_MOST};
@@ -61,15 +61,15 @@ pub fn check_opening(
 }
 
 // 6 and 8: the index and the clock.
-fn check_lent(settings: Settings, index: &Index<'_>, clock: ClockMs) -> Result<(), Refusal>
-    ensures { result_err result ≡ lent_refusal settings index.now clock }
+fn check_lent(settings: Settings, submission: &Submission<'_>) -> Result<(), Refusal>
+    ensures { result_err result ≡ lent_refusal settings submission.now.index submission.now.clock }
 {
     let frames = settings.reference_frames as usize;
     let bands = settings.reference_bands as usize;
-    if !index_fits(frames, bands, index) {
+    if !index_fits(frames, bands, submission.index) {
         return Err(Refusal::IndexTooShort);
     }
-    if !is_finite(clock.0) {
+    if !is_finite(submission.clock.0) {
         return Err(Refusal::ClockNotFinite);
     }
     Ok(())
@@ -110,22 +110,18 @@ pub fn check_window(window: &Window<'_>) -> Result<(), Refusal>
     Ok(())
 }
 
-// 13: by the window's bands and frames and the state's frames, a `u16`.
-// Kept: the three numbers by which the C names of sizes, too, say how long the slices have to be.
+// 13: by the window's bands and frames and the state's frames.
 #[tactic(auto, unfolding(engine_spec::specs::Refusals::work_fits), using(crate::proofs::Products::few))]
-fn work_fits(
-    bands: usize,
-    frames: usize,
-    reference_frames: usize,
-    room32: usize,
-    room64: usize,
-) -> bool
-    requires few_bands { bands ≤ bands_most }
-    requires few_frames { frames ≤ window_most }
-    requires few_reference_frames { reference_frames < 2 ^ 16 }
-    ensures { result ≡ work_fits bands frames reference_frames room32 room64 }
+fn work_fits(settings: Settings, submission: &Submission<'_>) -> bool
+    requires few_bands { submission.now.window.bands ≤ bands_most }
+    requires few_frames { length submission.now.window.times ≤ window_most }
+    ensures { result ≡ work_fits submission.now.window.bands (length submission.now.window.times) settings.reference_frames submission.now.room32 submission.now.room64 }
 {
-    2 * (bands * frames) <= room32 && 3 * (bands * (frames + 1)) + reference_frames <= room64
+    let window = submission.window;
+    let bands = window.bands;
+    let frames = window.times.len();
+    2 * (bands * frames) <= submission.room32
+        && 3 * (bands * (frames + 1)) + settings.reference_frames as usize <= submission.room64
 }
 
 // 6 and 8 to 13: what may be refused of a submission to a state with these settings.
@@ -133,16 +129,9 @@ fn work_fits(
 fn check_handed(settings: Settings, submission: &Submission<'_>) -> Result<(), Refusal>
     ensures { result_err result ≡ handed_refusal settings submission.now }
 {
-    let window = submission.window;
-    check_lent(settings, submission.index, submission.clock)?;
-    check_window(window)?;
-    if !work_fits(
-        window.bands,
-        window.times.len(),
-        settings.reference_frames as usize,
-        submission.room32,
-        submission.room64,
-    ) {
+    check_lent(settings, submission)?;
+    check_window(submission.window)?;
+    if !work_fits(settings, submission) {
         return Err(Refusal::WorkTooShort);
     }
     Ok(())

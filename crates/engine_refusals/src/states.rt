@@ -89,6 +89,7 @@ fn is_valid_lock(l: Lock) -> bool
 }
 
 // A reading is finite, however large.
+// Kept: beside `is_valid_endpoint`, two kinds of time of which two things are asked.
 #[tactic(auto, unfolding(engine_spec::specs::Refusals::valid_milestone))]
 fn is_valid_milestone(m: Option<ClockMs>) -> bool
     ensures { result ≡ valid_milestone m }
@@ -127,6 +128,7 @@ fn is_valid_estimate(e: Option<Estimate>) -> bool
 }
 
 // The milestones that a snapshot shows, as an engine holds them.
+// Kept: engine_words has the same, and neither crate rests on the other.
 fn milestones_shown(s: Snapshot) -> Milestones
     ensures { result ≡ milestones_shown s }
 {

@@ -1,7 +1,6 @@
 // The candidates as a snapshot shows them.
 ghost use Rattle.std.specs.Prelude.{◌<◌, ◌≤◌, length, ◌≡◌};
 ghost use Rattle.matcher_spec.specs.Limits.{candidates_most};
-ghost use Rattle.engine_spec.specs.Opening.{blank_candidate};
 ghost use Rattle.engine_spec.specs.Publishing.{candidate_array, comparable_frames, coverage};
 ghost use Rattle.engine_spec.specs.Windows.{duration};
 
@@ -24,7 +23,7 @@ pub fn candidate_array(
     requires { length found.now ≤ candidates_most }
     ensures { result ≡ candidate_array comparable coverage found.now }
 {
-    let mut rows = [blank_candidate(); CANDIDATES_MOST];
+    let mut rows = [CandidateDiagnostics::default(); CANDIDATES_MOST];
     for (i, c) in found.iter().enumerate() {
         rows[i] = CandidateDiagnostics {
             offset_ms: c.offset_ms,
@@ -47,6 +46,7 @@ pub fn comparable_frames(hop: f64, window: &Window<'_>) -> usize
 }
 
 // The part of the window that centring leaves, by its duration.
+// Kept: the fact, see `Window`.
 pub fn coverage(window: &Window<'_>) -> f64
     requires { 0 < length window.now.times }
     ensures { result ≡ coverage window.now }
@@ -61,17 +61,4 @@ pub fn duration_of(window: &Window<'_>) -> f64
     ensures { result ≡ duration window.now }
 {
     window.times[window.times.len() - 1] - window.times[0]
-}
-
-// What stands behind the last candidate.
-pub fn blank_candidate() -> CandidateDiagnostics
-    ensures { result ≡ blank_candidate }
-{
-    CandidateDiagnostics {
-        offset_ms: 0.0,
-        coarse_offset_ms: 0.0,
-        comparable_frame_count: 0,
-        coverage_ratio: 0.0,
-        combined_dense_score: 0.0,
-    }
 }

@@ -1,6 +1,6 @@
 // The diagnostics of a snapshot.
 ghost use Rattle.std.specs.Prelude.{◌<◌, ◌≤◌, length, cond, ◌≡◌};
-ghost use Rattle.numbers_spec.specs.Arithmetic.{zero⁺, magnitude};
+ghost use Rattle.numbers_spec.specs.Arithmetic.{zero⁺};
 ghost use Rattle.matcher_spec.specs.Candidates.{margin_of};
 ghost use Rattle.engine_spec.specs.Publishing.{diagnostics_of, magnitude_of, count_of_track};
 ghost use Rattle.engine_spec.specs.Cases.{is_publishing};
@@ -44,26 +44,12 @@ pub fn diagnostics_of(
     }
 }
 
-// The magnitude of a number that may be missing.
-#[tactic(auto, unfolding(engine_spec::specs::Publishing::magnitude_of))]
+// The magnitude of a number that may be missing: of either zero, +0.
+#[tactic(auto, unfolding(engine_spec::specs::Publishing::magnitude_of), using(crate::proofs::ShownLaws::without_sign))]
 fn magnitude_of(m: Option<f64>) -> Option<f64>
     ensures { result ≡ magnitude_of m }
 {
-    m.map(magnitude)
-}
-
-// |x|: the sign bit is cleared, so that either zero gives +0.
-#[tactic(auto, using(crate::proofs::ShownLaws::negative_magnitude, crate::proofs::ShownLaws::zero_magnitude, crate::proofs::ShownLaws::positive_magnitude))]
-fn magnitude(x: f64) -> f64
-    ensures { result ≡ magnitude x }
-{
-    if x < 0.0 {
-        return -x;
-    }
-    if x == 0.0 {
-        return 0.0;
-    }
-    x
+    m.map(f64::abs)
 }
 
 // 1 with a track, 0 without.

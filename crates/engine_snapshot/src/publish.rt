@@ -1,7 +1,7 @@
 // The snapshot of a decision (engine.rs, `publish`).
 ghost use Rattle.std.specs.Prelude.{◌<◌, ◌≤◌, length, cond, ◌≡◌};
 ghost use Rattle.matcher_spec.specs.declared.types.Candidate.{Candidate};
-ghost use Rattle.engine_spec.specs.Publishing.{between_zero_and_one, confidence_of, estimate_at, of_best, phase_of, publish, stage_of, track_correlation};
+ghost use Rattle.engine_spec.specs.Publishing.{confidence_of, estimate_at, of_best, phase_of, publish, stage_of, track_correlation};
 ghost use Rattle.engine_spec.specs.Cases.{is_publishing};
 ghost use Rattle.engine_decision.specs.Decided.{decision_in};
 
@@ -91,10 +91,9 @@ pub fn estimate_at(endpoint: RecordedMs, offset: Option<f64>) -> Option<Estimate
 fn confidence_of(offset: Option<f64>, correlation: f64, coast: f64) -> f64
     ensures { result ≡ confidence_of offset correlation coast }
 {
-    match offset {
-        None => 0.0,
-        Some(_) => between_zero_and_one(correlation * (1.0 - coast / COAST_MOST_MS)),
-    }
+    offset.map_or(0.0, |_| {
+        (correlation * (1.0 - coast / COAST_MOST_MS)).clamp(0.0, 1.0)
+    })
 }
 
 // The track's correlation where a track is shown, else the best candidate's.
@@ -111,22 +110,5 @@ fn correlation_of(d: &Decision) -> f64
 fn track_correlation(track: Option<Hypothesis>) -> f64
     ensures { result ≡ track_correlation track }
 {
-    match track {
-        None => 0.0,
-        Some(held) => held.correlation,
-    }
-}
-
-// `clamp`, which keeps -0.0.
-#[tactic(auto, unfolding(engine_spec::specs::Publishing::between_zero_and_one))]
-fn between_zero_and_one(x: f64) -> f64
-    ensures { result ≡ between_zero_and_one x }
-{
-    if x < 0.0 {
-        return 0.0;
-    }
-    if x > 1.0 {
-        return 1.0;
-    }
-    x
+    track.map_or(0.0, |held| held.correlation)
 }

@@ -40,10 +40,9 @@ pub fn best_or_blank(found: &[Candidate]) -> Candidate
 fn fresh_evidence(pending: Option<Hypothesis>) -> f64
     ensures { result ≡ fresh_evidence pending }
 {
-    match pending {
-        None => 0.0,
-        Some(held) => at_least(0.0, held.last_evidence_ms.0 - held.first_evidence_ms.0),
-    }
+    pending.map_or(0.0, |held| {
+        at_least(0.0, held.last_evidence_ms.0 - held.first_evidence_ms.0)
+    })
 }
 
 // Only a whole search has a competing peak.

@@ -77,7 +77,7 @@ pub struct Estimate {
     pub offset_ms: f64,
 }
 
-#[derive(Clone, Copy)]
+#[derive(Clone, Copy, Default)]
 pub struct SpectralDiagnostics {
     pub global_search: bool,
     pub correlation: f64,
@@ -89,7 +89,7 @@ pub struct SpectralDiagnostics {
     pub coast_ms: f64,
 }
 
-#[derive(Clone, Copy)]
+#[derive(Clone, Copy, Default)]
 pub struct CandidateDiagnostics {
     pub offset_ms: f64,
     pub coarse_offset_ms: f64,
@@ -98,7 +98,7 @@ pub struct CandidateDiagnostics {
     pub combined_dense_score: f64,
 }
 
-#[derive(Clone, Copy)]
+#[derive(Clone, Copy, Default)]
 pub struct Diagnostics {
     pub query_duration_ms: f64,
     pub active_frame_fraction: f64,
@@ -178,7 +178,7 @@ pub struct Lock {
 }
 
 // When the first passing search was answered, and the first end of a chain.
-#[derive(Clone, Copy)]
+#[derive(Clone, Copy, Default)]
 pub struct Milestones {
     pub first_provisional_ms: Option<ClockMs>,
     pub confirmed_ms: Option<ClockMs>,
@@ -238,6 +238,7 @@ pub enum AnswerKind {
 // shown.
 #[derive(Clone, Copy)]
 pub struct Submitted {
+    // Kept: a kind of answer, with no case for a refusal or for nothing.
     pub answer: AnswerKind,
     pub engine: Engine,
     pub snapshot: Snapshot,
