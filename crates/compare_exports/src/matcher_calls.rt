@@ -307,6 +307,8 @@ pub extern "C" fn matcher_local_search(
 }
 
 // The candidate at a place among eight.
+// Kept: a clause for the place. With this body in the closure below the search did not prove
+// `candidates_at`.
 #[tactic(auto, unfolding(crate::specs::MatcherCalls::candidate_at))]
 fn candidate_at(numbers: &[f64; NUMBERS], i: usize) -> Candidate
     requires { i < candidates_most }
