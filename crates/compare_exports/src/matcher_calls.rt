@@ -1,7 +1,7 @@
 // The matcher, for Rust to call. Sizes that do not fit are answered by `UNFIT`, and then nothing is
 // written.
 ghost use Rattle.std.specs.Prelude.{IsTrue, true, ◌+◌, ◌*◌, ◌/◌, ◌<◌, ◌≤◌, drop, length, ◌++◌, ◌≡◌};
-ghost use Rattle.compare_exports.specs.MatcherCalls.{candidate_at, candidates_at, counted, fill_answer, filled_buffers, fits_bands, fits_fill_lengths, fits_limits, fits_local, fits_margin, fits_whole, fits_window, found_in, found_near, margin_answer, margin_written, numbers_of, reference_of, written};
+ghost use Rattle.compare_exports.specs.MatcherCalls.{candidate_at, candidates_at, counted, fill_answer, filled_buffers, fits_bands, fits_fill_lengths, fits_limits, fits_local, fits_whole, fits_window, found_in, found_near, margin_answer, margin_written, numbers_of, reference_of, written};
 ghost use Rattle.matcher_spec.specs.Candidates.{eight_of};
 ghost use Rattle.matcher_spec.specs.Centring.{wide_hop};
 ghost use Rattle.matcher_spec.specs.Energy.{Holds};
@@ -14,7 +14,7 @@ use matcher::index::fill_index;
 use matcher::lent::{lent_fine, lent_matcher};
 use matcher::local::local_search;
 use matcher::whole::whole_search;
-use matcher_picks::candidates::{eight_of, margin};
+use matcher_picks::candidates::{eight_of, margin, numbers_of};
 use matcher_spec::lent::{Features, Index};
 use matcher_spec::limits::{
     BANDS_MOST, CANDIDATES_MOST, FRAMES_MOST, HOP_LEAST, HOP_MOST, WINDOW_MOST,
@@ -39,7 +39,8 @@ fn fits_limits(bands: usize, frames: usize, hop: f64) -> bool
 }
 
 // Whether slices of these lengths hold n values a band, and their energies.
-// Kept: `few`, so that the products do not overflow.
+// Kept: two numbers below a bound, so that no product overflows; clauses like these in engine_refusals and
+// matcher_bands are alike by text alone.
 #[tactic(auto, using(crate::proofs::FitLaws::few), unfolding(crate::specs::MatcherCalls::fits_bands))]
 fn fits_bands(bands: usize, n: usize, values: usize, energy: usize) -> bool
     requires few { bands ≤ bands_most }
@@ -51,7 +52,7 @@ fn fits_bands(bands: usize, n: usize, values: usize, energy: usize) -> bool
 }
 
 // Whether the lengths of a window's slices and of the working buffers are enough.
-// Kept: the lengths alone, here and in the two below, since the working slices are lent `&mut`.
+// Kept: the lengths alone, here and in `fits_local` and `fits_whole`, since the working slices are lent `&mut`.
 #[tactic(auto, using(crate::proofs::FitLaws::few), unfolding(crate::specs::MatcherCalls::fits_window))]
 fn fits_window(frames: usize, window: &Features<'_>, work32: usize, work64: usize) -> bool
     requires { frames ≤ frames_most }
@@ -134,23 +135,15 @@ pub extern "C" fn matcher_fill_index(
 }
 
 // Writes the numbers of eight candidates, five each: zeros behind the last found.
-// Kept: here and below slices of 40 numbers or more, as the C interface lends them.
+// Kept: a slice: both callers test its length with the others', and each would have to unwrap an array.
 fn write_candidates(out: &mut [f64], found: &MatchResult)
     requires { 40 ≤ length out.old }
     ensures { out.new ≡ numbers_of (eight_of found.now.items) ++ drop 40 out.old }
 {
     let eight = eight_of(found);
     for i in 0..CANDIDATES_MOST {
-        let c = eight[i];
-        let numbers = [
-            c.offset_ms,
-            c.score,
-            c.first_half_score,
-            c.second_half_score,
-            c.recent_score,
-        ];
         let at = i * 5;
-        out[at..at + 5].copy_from_slice(&numbers);
+        out[at..at + 5].copy_from_slice(&numbers_of(eight[i]));
     }
 }
 
@@ -313,51 +306,46 @@ pub extern "C" fn matcher_local_search(
     found.len()
 }
 
-// The candidate that the numbers from i on make.
+// The candidate at a place among eight.
+// Kept: a clause for the place. With this body in the closure below the search did not prove
+// `candidates_at`.
 #[tactic(auto, unfolding(crate::specs::MatcherCalls::candidate_at))]
-fn candidate_at(numbers: &[f64], i: usize) -> Candidate
-    requires fact_1 { i ≤ 35 }
-    requires fact_2 { 40 ≤ length numbers.now }
-    ensures { result ≡ candidate_at numbers.now i }
+fn candidate_at(numbers: &[f64; NUMBERS], i: usize) -> Candidate
+    requires { i < candidates_most }
+    ensures { result ≡ candidate_at numbers.now (i * 5) }
 {
+    let at = i * 5;
     Candidate {
-        offset_ms: numbers[i],
-        score: numbers[i + 1],
-        first_half_score: numbers[i + 2],
-        second_half_score: numbers[i + 3],
-        recent_score: numbers[i + 4],
+        offset_ms: numbers[at],
+        score: numbers[at + 1],
+        first_half_score: numbers[at + 2],
+        second_half_score: numbers[at + 3],
+        recent_score: numbers[at + 4],
     }
 }
 
 // The eight candidates whose numbers a search has written.
 #[tactic(auto, unfolding(crate::specs::MatcherCalls::candidates_at))]
-fn candidates_at(numbers: &[f64]) -> [Candidate; CANDIDATES_MOST]
-    requires { 40 ≤ length numbers.now }
+fn candidates_at(numbers: &[f64; NUMBERS]) -> [Candidate; CANDIDATES_MOST]
     ensures { result ≡ candidates_at numbers.now }
 {
-    array::from_fn(|i| candidate_at(numbers, i * 5))
-}
-
-// Whether a margin can be told: at most 8 candidates, the numbers of 8, and room for one number.
-#[tactic(auto, unfolding(crate::specs::MatcherCalls::fits_margin))]
-fn fits_margin(numbers: usize, count: usize, out: usize) -> bool
-    ensures value { result ≡ fits_margin numbers count out }
-    ensures room { IsTrue result → (count ≤ candidates_most) × (40 ≤ numbers) × (0 < out) }
-{
-    count <= CANDIDATES_MOST && NUMBERS <= numbers && out > 0
+    array::from_fn(|i| candidate_at(numbers, i))
 }
 
 // Writes the margin of the first `count` candidates, whose numbers stand as a search writes them, and
 // answers 1.
 #[unsafe(no_mangle)]
+#[tactic(auto, unfolding(crate::specs::MatcherCalls::fits_margin))]
 pub extern "C" fn matcher_margin(numbers: &[f64], count: usize, out: &mut [f64]) -> usize
     ensures value { result ≡ margin_answer numbers.now count out.old }
     ensures out_after { out.new ≡ margin_written numbers.now count out.old }
 {
-    if !fits_margin(numbers.len(), count, out.len()) {
+    let Some(numbers) = numbers.first_chunk() else {
+        return UNFIT;
+    };
+    if count > CANDIDATES_MOST || out.is_empty() {
         return UNFIT;
     }
-    let candidates = candidates_at(numbers);
-    out[0] = margin(&candidates[..count]);
+    out[0] = margin(&candidates_at(numbers)[..count]);
     1
 }

@@ -33,6 +33,7 @@ pub enum Fault {
 
 impl Fault {
     // By its number on a line; any other says that nothing is wrong.
+    // Kept: a match, since the numbers are the list's and not a place in the declaration.
     pub fn numbered(number: u64) -> Option<Fault> {
         match number {
             1 => Some(Fault::ShortFine),
@@ -53,51 +54,60 @@ impl Fault {
     }
 }
 
-// How much is lent of a buffer of `length` that has to hold `needed`.
-pub fn lent(fault: Option<Fault>, short: Fault, needed: usize, length: usize) -> usize {
-    if fault == Some(short) {
-        needed.saturating_sub(1)
-    } else {
-        length
-    }
+// What is wrong with what is handed in, if anything is, and at which value or time.
+#[derive(Clone, Copy)]
+pub struct Spoiled {
+    pub fault: Option<Fault>,
+    pub at: usize,
 }
 
-// How much of an index buffer is lent that has to hold `needed`.
-pub fn lent_of<T>(list: &[T], fault: Option<Fault>, short: Fault, needed: usize) -> &[T] {
-    part(list, lent(fault, short, needed, list.len()))
+impl Spoiled {
+    // How much is lent of a buffer of `length` that has to hold `needed`.
+    pub fn lent(self, short: Fault, needed: usize, length: usize) -> usize {
+        if self.fault == Some(short) {
+            needed.saturating_sub(1)
+        } else {
+            length
+        }
+    }
+
+    // How much of an index buffer is lent that has to hold `needed`.
+    pub fn lent_of<T>(self, list: &[T], short: Fault, needed: usize) -> &[T] {
+        part(list, self.lent(short, needed, list.len()))
+    }
+
+    // The bands that there are.
+    pub fn made_bands(self, bands: usize) -> usize {
+        match self.fault {
+            Some(Fault::WideWindow) => bands % BANDS_MOST + 1,
+            _ => bands,
+        }
+    }
+
+    // The bands that are said.
+    pub fn said_bands(self, bands: usize) -> usize {
+        match self.fault {
+            Some(Fault::ManyBands) => BANDS_MOST + 1,
+            Some(Fault::NoBands) => 0,
+            _ => bands,
+        }
+    }
+
+    pub fn spoil_values(self, values: &mut [f32]) {
+        if self.fault == Some(Fault::NegativeValue) && self.at < values.len() {
+            values[self.at] = -1.0;
+        }
+    }
+
+    pub fn spoil_times(self, times: &mut [f64], hop: f64) {
+        if self.fault == Some(Fault::LateTime) && self.at < times.len() {
+            times[self.at] += hop * 0.3;
+        }
+    }
 }
 
 // The first n of a list, or all where it has fewer.
 pub fn part<T>(list: &[T], n: usize) -> &[T] {
     let end = n.min(list.len());
     &list[..end]
-}
-
-// The bands that there are.
-pub fn made_bands(fault: Option<Fault>, bands: usize) -> usize {
-    match fault {
-        Some(Fault::WideWindow) => bands % BANDS_MOST + 1,
-        _ => bands,
-    }
-}
-
-// The bands that are said.
-pub fn said_bands(fault: Option<Fault>, bands: usize) -> usize {
-    match fault {
-        Some(Fault::ManyBands) => BANDS_MOST + 1,
-        Some(Fault::NoBands) => 0,
-        _ => bands,
-    }
-}
-
-pub fn spoil_values(values: &mut [f32], fault: Option<Fault>, at: usize) {
-    if fault == Some(Fault::NegativeValue) && at < values.len() {
-        values[at] = -1.0;
-    }
-}
-
-pub fn spoil_times(times: &mut [f64], fault: Option<Fault>, at: usize, hop: f64) {
-    if fault == Some(Fault::LateTime) && at < times.len() {
-        times[at] += hop * 0.3;
-    }
 }

@@ -18,23 +18,18 @@ pub fn word_or_zero<T: Word>(x: Option<T>) -> u64
     ensures value { result ≡ word_or_zero T.word x }
     ensures back { option_of T.of_word (tag x) result ≡ x }
 {
-    match x {
-        Some(x) => x.to_word(),
-        None => 0,
-    }
+    x.map_or(0, |x| x.to_word())
 }
 
 #[tactic(auto, unfolding(crate::specs::Layout::option_of))]
 pub fn option_of<T: Word>(tag: u64, n: u64) -> Option<T>
     ensures { result ≡ option_of T.of_word tag n }
 {
-    if tag == 1 {
-        Some(T::from_word(n))
-    } else {
-        None
-    }
+    (tag == 1).then(|| T::from_word(n))
 }
 
+// Kept: two records, here and below, of three and of four fields; for one pair of functions over both
+// the length 1 + N would have to be computed, and Rattle has no computed const argument.
 #[tactic(auto, unfolding(crate::specs::Layout::estimate_of, crate::specs::Written::estimate_words))]
 pub fn estimate_words(e: Option<Estimate>) -> [u64; 4]
     ensures value { result ≡ estimate_words e }

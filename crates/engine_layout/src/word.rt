@@ -126,7 +126,7 @@ impl Word for bool {
 }
 
 // ---- an enum: a variant's place in its declaration, from 0; a number out of range reads as the last
-// Kept: a match for each of the four, since `TryFrom` would refuse the numbers that have to read as the last.
+// Kept: a match for each of the four. `Word` is the conversion; `From` would stand in engine_spec, which has no functions.
 #[tactic(auto, unfolding(crate::specs::Layout::state_of, crate::specs::Written::state_word))]
 impl Word for State {
     ghost word = { state_word };

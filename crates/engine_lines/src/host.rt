@@ -3,8 +3,7 @@ use crate::answers::Answers;
 use crate::opening::Opening;
 use crate::submission::Submission;
 use crate::{opening, submission};
-use engine_cases::faults;
-use engine_cases::faults::Fault;
+use engine_cases::faults::{Fault, Spoiled, part};
 use engine_words::snapshots::SNAPSHOT_WORDS;
 use engine_words::states::STATE_WORDS;
 use kistovab::calls::{kistovab_open, kistovab_submit};
@@ -13,7 +12,7 @@ use kistovab::sizes::{
     kistovab_fine_length, kistovab_work32_length, kistovab_work64_length,
 };
 use matcher_spec::lent::Index;
-use replays::digest::with_all;
+use replays::digest::{digest_of_index, with_all};
 
 // The thresholds of energy are as a unit starts with them.
 const ACTIVE: f64 = -70.0;
@@ -45,39 +44,39 @@ struct Buffers {
 
 impl Buffers {
     // As much of each as is lent with a window.
-    fn lent(&self, o: Opening, fault: Option<Fault>) -> Index<'_> {
+    fn lent(&self, o: Opening, spoiled: Spoiled) -> Index<'_> {
         Index {
-            fine: faults::lent_of(
+            fine: spoiled.lent_of(
                 &self.fine,
-                fault,
                 Fault::ShortFine,
                 kistovab_fine_length(o.frames, o.bands),
             ),
-            coarse: faults::lent_of(
+            coarse: spoiled.lent_of(
                 &self.coarse,
-                fault,
                 Fault::ShortCoarse,
                 kistovab_coarse_length(o.frames, o.bands),
             ),
-            fine_energy: faults::lent_of(
+            fine_energy: spoiled.lent_of(
                 &self.fine_energy,
-                fault,
                 Fault::ShortFineEnergy,
                 kistovab_fine_energy_length(o.frames, o.bands),
             ),
-            coarse_energy: faults::lent_of(
+            coarse_energy: spoiled.lent_of(
                 &self.coarse_energy,
-                fault,
                 Fault::ShortCoarseEnergy,
                 kistovab_coarse_energy_length(o.frames, o.bands),
             ),
         }
     }
 
-    // All of them, as one word.
-    fn digest(&self) -> u64 {
-        let narrow = with_all(with_all(0, &self.fine), &self.coarse);
-        with_all(with_all(narrow, &self.fine_energy), &self.coarse_energy)
+    // All of each.
+    fn whole(&self) -> Index<'_> {
+        Index {
+            fine: &self.fine,
+            coarse: &self.coarse,
+            fine_energy: &self.fine_energy,
+            coarse_energy: &self.coarse_energy,
+        }
     }
 }
 
@@ -105,7 +104,7 @@ impl Host {
     pub fn open(&mut self, o: Opening) -> Answers {
         let reference = o.reference();
         let size = kistovab_fine_length(o.frames, o.bands);
-        let size = faults::lent(o.fault, Fault::FewValues, size, size);
+        let size = o.spoiled.lent(Fault::FewValues, size, size);
         let answer = kistovab_open(
             o.readiness,
             o.tracking,
@@ -113,9 +112,9 @@ impl Host {
             AVERAGE,
             o.fraction,
             o.hop,
-            faults::said_bands(o.fault, o.bands),
-            faults::part(&reference.times, o.frames),
-            faults::part(&reference.values, size),
+            o.spoiled.said_bands(o.bands),
+            part(&reference.times, o.frames),
+            part(&reference.values, size),
             &mut self.index.fine,
             &mut self.index.coarse,
             &mut self.index.fine_energy,
@@ -125,7 +124,7 @@ impl Host {
         Answers {
             answer: answer as u64,
             state: with_all(0, &self.state),
-            shown: self.index.digest(),
+            shown: digest_of_index(&self.index.whole()),
         }
     }
 
@@ -134,7 +133,7 @@ impl Host {
     pub fn submit(&mut self, o: Opening, s: Submission) -> Answers {
         let made = s.made(o);
         let window = made.lent(o, s);
-        let index = self.index.lent(o, s.fault);
+        let index = self.index.lent(o, s.spoiled);
         let narrow = kistovab_work32_length(s.frames, s.bands(o));
         let wide = kistovab_work64_length(s.frames, s.bands(o), o.frames);
         let n = s.lent(Fault::ShortWork32, narrow).min(WORK32);

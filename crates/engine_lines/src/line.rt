@@ -1,7 +1,8 @@
-// The words of a line, as counts and as floats.
+// The words of a line, as counts, as floats, and as what is wrong with what is handed in.
 ghost use Rattle.std.specs.Prelude.{◌<◌};
 ghost use Rattle.engine_lines.specs.Lines.{line_words};
 
+use engine_cases::faults::{Fault, Spoiled};
 use hexadecimal::{SPACED, word_at};
 use std::num::f64_from_bits_with_nan;
 
@@ -18,4 +19,12 @@ pub fn float_at(line: &[u8; LINE], k: usize) -> f64
     requires { k < line_words }
 {
     f64_from_bits_with_nan(word_at(line, k))
+}
+
+// What is wrong is said at one place of both kinds of line.
+pub(crate) fn spoiled_by(line: &[u8; LINE]) -> Spoiled {
+    Spoiled {
+        fault: Fault::numbered(word_at(line, 10)),
+        at: count_at(line, 11),
+    }
 }

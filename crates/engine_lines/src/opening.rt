@@ -1,7 +1,6 @@
 // An opening of the list, and the reference that it makes.
-use crate::line::{LINE, count_at, float_at};
-use engine_cases::faults;
-use engine_cases::faults::Fault;
+use crate::line::{LINE, count_at, float_at, spoiled_by};
+use engine_cases::faults::Spoiled;
 use engine_cases::sound::Sound;
 use hexadecimal::word_at;
 use replays::sound::fill_times;
@@ -13,8 +12,7 @@ pub(crate) const BANDS: usize = 4;
 
 pub(crate) const VALUES: usize = BANDS * FRAMES;
 
-// What makes a reference. `fault` and `at` say what is wrong with it, see faults.rt. The index
-// buffers are lent whole: some references need longer ones.
+// What makes a reference. The index buffers are lent whole: some references need longer ones.
 #[derive(Clone, Copy)]
 pub struct Opening {
     pub sound: Sound,
@@ -25,8 +23,7 @@ pub struct Opening {
     pub readiness: f64,
     pub tracking: f64,
     pub fraction: f64,
-    pub fault: Option<Fault>,
-    pub at: usize,
+    pub spoiled: Spoiled,
 }
 
 impl Opening {
@@ -41,8 +38,7 @@ impl Opening {
             readiness: float_at(line, 7),
             tracking: float_at(line, 8),
             fraction: float_at(line, 9),
-            fault: Fault::numbered(word_at(line, 10)),
-            at: count_at(line, 11),
+            spoiled: spoiled_by(line),
         }
     }
 
@@ -51,9 +47,9 @@ impl Opening {
         let mut times = [0.0f64; FRAMES];
         let mut values = [0.0f32; VALUES];
         fill_times(&mut times, self.start, self.hop);
-        faults::spoil_times(&mut times, self.fault, self.at, self.hop);
+        self.spoiled.spoil_times(&mut times, self.hop);
         self.sound.fill_reference(&mut values, self.frames);
-        faults::spoil_values(&mut values, self.fault, self.at);
+        self.spoiled.spoil_values(&mut values);
         Reference { times, values }
     }
 }

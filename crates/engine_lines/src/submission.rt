@@ -1,9 +1,8 @@
 // A submission of the list, and the window that it makes.
-use crate::line::{LINE, count_at, float_at};
+use crate::line::{LINE, count_at, float_at, spoiled_by};
 use crate::opening;
 use crate::opening::Opening;
-use engine_cases::faults;
-use engine_cases::faults::Fault;
+use engine_cases::faults::{Fault, Spoiled, part};
 use engine_cases::sound::{Heard, fill_energies};
 use engine_spec::lent::Window;
 use hexadecimal::word_at;
@@ -17,8 +16,7 @@ pub(crate) const BANDS: usize = opening::BANDS + 1;
 
 pub(crate) const VALUES: usize = BANDS * FRAMES;
 
-// What makes a window, and what comes with it. `fault` and `at` say what is wrong with it, see
-// faults.rt.
+// What makes a window, and what comes with it.
 #[derive(Clone, Copy)]
 pub struct Submission {
     pub begin: f64,
@@ -27,8 +25,7 @@ pub struct Submission {
     pub energy: f64,
     pub loud: usize,
     pub clock: f64,
-    pub fault: Option<Fault>,
-    pub at: usize,
+    pub spoiled: Spoiled,
 }
 
 impl Submission {
@@ -47,8 +44,7 @@ impl Submission {
             energy: float_at(line, 7),
             loud: count_at(line, 8),
             clock: float_at(line, 9),
-            fault: Fault::numbered(word_at(line, 10)),
-            at: count_at(line, 11),
+            spoiled: spoiled_by(line),
         }
     }
 
@@ -58,10 +54,10 @@ impl Submission {
         let mut energies = [0.0f64; FRAMES];
         let mut values = [0.0f32; VALUES];
         fill_times(&mut times, self.begin, o.hop);
-        faults::spoil_times(&mut times, self.fault, self.at, o.hop);
+        self.spoiled.spoil_times(&mut times, o.hop);
         fill_energies(&mut energies, self.energy, self.loud);
         o.sound.fill_window(&mut values, self.heard, self.frames);
-        faults::spoil_values(&mut values, self.fault, self.at);
+        self.spoiled.spoil_values(&mut values);
         Made {
             times,
             energies,
@@ -71,12 +67,12 @@ impl Submission {
 
     // The bands of it that there are.
     pub(crate) fn bands(self, o: Opening) -> usize {
-        faults::made_bands(self.fault, o.bands)
+        self.spoiled.made_bands(o.bands)
     }
 
     // How much is lent of what has to hold `needed`.
     pub(crate) fn lent(self, short: Fault, needed: usize) -> usize {
-        faults::lent(self.fault, short, needed, needed)
+        self.spoiled.lent(short, needed, needed)
     }
 }
 
@@ -94,10 +90,10 @@ impl Made {
         let bands = s.bands(o);
         let size = kistovab_fine_length(s.frames, bands);
         Window {
-            bands: faults::said_bands(s.fault, bands),
-            times: faults::part(&self.times, s.frames),
-            energies: faults::part(&self.energies, s.lent(Fault::FewEnergies, s.frames)),
-            values: faults::part(&self.values, s.lent(Fault::FewValues, size)),
+            bands: s.spoiled.said_bands(bands),
+            times: part(&self.times, s.frames),
+            energies: part(&self.energies, s.lent(Fault::FewEnergies, s.frames)),
+            values: part(&self.values, s.lent(Fault::FewValues, size)),
         }
     }
 }

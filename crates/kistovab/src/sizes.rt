@@ -22,7 +22,8 @@ pub fn kistovab_snapshot_words() -> usize
     SNAPSHOT_WORDS
 }
 
-// Kept: here and below counts one by one, as the C interface has them; the header has these names.
+// Kept: here and below counts one by one, as the C interface has them, and alike in shape: each is a
+// name of the header, with a definition of its own.
 #[tactic(auto, unfolding(crate::specs::Sizes::fine_length), using(engine_refusals::proofs::Products::few))]
 pub fn kistovab_fine_length(frames: usize, bands: usize) -> usize
     ensures { result ≡ fine_length frames bands }

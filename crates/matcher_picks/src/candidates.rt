@@ -1,5 +1,5 @@
 // Candidates: their order, the 750 rule and the margin.
-ghost use Rattle.std.specs.Prelude.{◌+◌, ◌<◌, length, [], ◌≡◌};
+ghost use Rattle.std.specs.Prelude.{◌+◌, ◌<◌, length, [], ◌∷◌, ◌≡◌};
 ghost use Rattle.arrayvec.specs.ArrayVec.{array_vec_len};
 ghost use Rattle.matcher_spec.specs.Candidates.{crowded, eight_of, independent, insert, margin_of};
 
@@ -22,6 +22,19 @@ pub fn eight_of(found: &MatchResult) -> [Candidate; CANDIDATES_MOST]
     let mut eight = [Candidate::default(); CANDIDATES_MOST];
     eight[..found.len()].copy_from_slice(found);
     eight
+}
+
+// A candidate's five numbers, in order.
+pub fn numbers_of(c: Candidate) -> [f64; 5]
+    ensures { result ≡ c.offset_ms ∷ c.score ∷ c.first_half_score ∷ c.second_half_score ∷ c.recent_score ∷ [] }
+{
+    [
+        c.offset_ms,
+        c.score,
+        c.first_half_score,
+        c.second_half_score,
+        c.recent_score,
+    ]
 }
 
 // Puts c before the first candidate that scores lower.

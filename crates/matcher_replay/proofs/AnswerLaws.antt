@@ -7,8 +7,9 @@ use Rattle.matcher_spec.specs.declared.types.Candidate.{Candidate}
 use Rattle.matcher_spec.specs.Index.{Index, Matcher, accepts_reference, filled, lent, lent_matcher, matcher_of}
 use Rattle.matcher_spec.specs.Search.{local_search, whole_search}
 use Rattle.matcher_spec.specs.Features.{Features, features}
-use Rattle.matcher_replay.specs.Agreement.{answers_in, heard_in, index_digest, local_of, offset_of, reference_of, reference_sound, reference_times, rejected, searched_in, whole_of, window_sound, window_times}
+use Rattle.matcher_replay.specs.Agreement.{answers_in, heard_in, local_of, offset_of, reference_of, reference_sound, reference_times, rejected, searched_in, whole_of, window_sound, window_times}
 use Rattle.matcher_replay.specs.Digests.{with_candidates}
+use Rattle.replays.specs.Digests.{index_digest}
 use Rattle.matcher_replay.specs.declared.answers.Answers.{Answers}
 use Rattle.matcher_replay.specs.declared.case.Case.{Case}
 

@@ -10,18 +10,15 @@ use Rattle.matcher_spec.specs.Features.{Features, features}
 use Rattle.matcher_spec.specs.declared.types.Reference.{Reference}
 use Rattle.hexadecimal.specs.Hexadecimal.{spaced, word_at}
 use Rattle.matcher_replay.specs.Cases.{case_of, coarse_room, coarse_energy_room, fine_room, fine_energy_room, is_small}
-use Rattle.matcher_replay.specs.Digests.{with_candidates, with_floats}
+use Rattle.matcher_replay.specs.Digests.{with_candidates}
 use Rattle.matcher_replay.specs.Sounds.{reference_values, window_values}
+use Rattle.replays.specs.Digests.{index_digest}
 use Rattle.replays.specs.Lines as lists
 use Rattle.replays.specs.Sounds.{times_from}
 use Rattle.matcher_replay.specs.declared.answers.Answers.{Answers}
 use Rattle.matcher_replay.specs.declared.case.Case.{Case}
 
 -- ---- the searches of an index
--- All of the index, as one word.
-unfoldable pub index_digest : Index → ℕ
-index_digest index = with_floats (with_floats (with_floats (with_floats 0 index.fine) index.coarse) index.fine_energy) index.coarse_energy
-
 -- 5,000: the window's first time
 abbrev pub begin : Float
 begin = from_bits binary64 0x40b3880000000000

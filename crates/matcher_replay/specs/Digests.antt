@@ -1,13 +1,8 @@
 -- One word for many floats: the bits of all of them, in order. Definitions only.
-use Rattle.std.specs.Prelude.{ℕ, List, [], ◌∷◌, to_bits, Float}
+use Rattle.std.specs.Prelude.{ℕ, List, [], ◌∷◌}
 use Rattle.std.specs.List.{fold}
-use Rattle.std.specs.Float.{binary64}
 use Rattle.matcher_spec.specs.declared.types.Candidate.{Candidate}
-use Rattle.replays.specs.Digests.{with_all}
-
--- A NaN counts as one pattern.
-abbrev pub with_floats : ℕ → List Float → ℕ
-with_floats = with_all (to_bits binary64)
+use Rattle.replays.specs.Digests.{with_floats}
 
 -- The five numbers of a candidate, and those of each of a list.
 unfoldable pub with_candidate : ℕ → Candidate → ℕ

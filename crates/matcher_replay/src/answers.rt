@@ -1,6 +1,6 @@
 // What the matcher answers to a case, and whether a line says so.
 ghost use Rattle.std.specs.Prelude.{◌≡◌};
-ghost use Rattle.matcher_replay.specs.Agreement.{answers_of, heard_in, index_digest, rejected, says_of};
+ghost use Rattle.matcher_replay.specs.Agreement.{answers_of, heard_in, says_of};
 ghost use Rattle.matcher_replay.specs.Cases.{FitsArrays};
 
 use crate::case::{CASE_BANDS, CASE_FRAMES, CASE_WINDOW, LINE};
@@ -12,7 +12,7 @@ use matcher::lent::lent_matcher;
 use matcher::local::local_search;
 use matcher::whole::whole_search;
 use matcher_spec::lent::{Features, Index};
-use replays::digest::with_all;
+use replays::digest::digest_of_index;
 use replays::sound::fill_times;
 
 // What a case needs of a reference, its index, a window, and of buffers to work in.
@@ -32,7 +32,7 @@ const WORK64: usize = 3 * (CASE_BANDS * (CASE_WINDOW + 1)) + CASE_FRAMES;
 
 // What is answered: 1 where the index was filled, a digest of it, and of each search the number of
 // candidates and their digest.
-#[derive(Drop)]
+#[derive(Default, Drop)]
 pub struct Answers {
     pub filled: u64,
     pub index: u64,
@@ -81,7 +81,7 @@ pub fn answers_to(small: SmallCase) -> Answers
         case.hop,
         &reference,
     ) {
-        return rejected();
+        return Answers::default();
     }
     let index = Index {
         fine: &fine,
@@ -90,20 +90,6 @@ pub fn answers_to(small: SmallCase) -> Answers
         coarse_energy: &coarse_energy,
     };
     search_in(small, &index)
-}
-
-// The answers where the reference is rejected.
-fn rejected() -> Answers
-    ensures { result ≡ rejected }
-{
-    Answers {
-        filled: 0,
-        index: 0,
-        whole_count: 0,
-        whole: 0,
-        local_count: 0,
-        local: 0,
-    }
 }
 
 // The window's searches of an index. Its sound, too, is made for all of an array.
@@ -142,13 +128,4 @@ fn search_in(small: SmallCase, index: &Index<'_>) -> Answers
         local_count: local.len() as u64,
         local: digest::of_candidates(&local),
     }
-}
-
-// All of the index, as one word.
-#[tactic(auto, unfolding(crate::specs::Agreement::index_digest))]
-fn digest_of_index(index: &Index<'_>) -> u64
-    ensures { result ≡ index_digest index.now }
-{
-    let word = with_all(with_all(0, index.fine), index.coarse);
-    with_all(with_all(word, index.fine_energy), index.coarse_energy)
 }

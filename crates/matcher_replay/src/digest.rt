@@ -3,7 +3,7 @@ ghost use Rattle.std.specs.Prelude.{◌≡◌};
 ghost use Rattle.matcher_spec.specs.Candidates.{eight_of};
 ghost use Rattle.matcher_replay.specs.Digests.{with_candidate, with_candidates};
 
-use matcher_picks::candidates::eight_of;
+use matcher_picks::candidates::{eight_of, numbers_of};
 use matcher_spec::types::{Candidate, MatchResult};
 use replays::digest::with_all;
 
@@ -12,16 +12,7 @@ use replays::digest::with_all;
 fn with_candidate(word: u64, c: Candidate) -> u64
     ensures { result ≡ with_candidate word c }
 {
-    with_all(
-        word,
-        &[
-            c.offset_ms,
-            c.score,
-            c.first_half_score,
-            c.second_half_score,
-            c.recent_score,
-        ],
-    )
+    with_all(word, &numbers_of(c))
 }
 
 // Those of all that a search found, the blank ones behind the last too.

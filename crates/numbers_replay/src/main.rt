@@ -35,7 +35,7 @@ impl Replayed<LINE> for Numbers {
 // The buffer holds 1,598 lines and a part of one more, so a list that is too long ends in a line that is cut off,
 // which counts as one that differs. Fails where the list cannot be read, or what it came to cannot
 // be written.
-// Kept: of one shape with matcher_replay's, since what each writes is its own.
+// Kept: as matcher_replay's, since it is three lines, and the text would stay here.
 fn main(rt: HostRuntime) -> io::Result<()> {
     let out = rt.stdout();
     let Count { lines, differ } = replay(&mut rt.stdin(), out)?;

@@ -2,7 +2,9 @@
 ghost use Rattle.std.specs.Prelude.{ℕ, ◌≡◌};
 ghost use Rattle.std.specs.Float.{binary64};
 ghost use Rattle.std.specs.Float.Ieee.{to_bits};
-ghost use Rattle.replays.specs.Digests.{with_all, with_word};
+ghost use Rattle.replays.specs.Digests.{index_digest, with_all, with_word};
+
+use matcher_spec::lent::Index;
 
 // What a digest takes in as one word.
 pub trait Word: Copy {
@@ -49,4 +51,13 @@ pub fn with_all<T: Word>(word: u64, list: &[T]) -> u64
     ensures { result ≡ with_all T.word word list.now }
 {
     list.iter().fold(word, |all, x| with(all, x.word()))
+}
+
+// All of an index, as one word.
+#[tactic(auto, unfolding(crate::specs::Digests::index_digest))]
+pub fn digest_of_index(index: &Index<'_>) -> u64
+    ensures { result ≡ index_digest index.now }
+{
+    let narrow = with_all(with_all(0, index.fine), index.coarse);
+    with_all(with_all(narrow, index.fine_energy), index.coarse_energy)
 }

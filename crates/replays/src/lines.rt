@@ -73,6 +73,7 @@ pub fn replay<const LINE: usize, A: Replayed<LINE>>(
 }
 
 // How many lines differ from what is answered to them.
+// Kept: counted in a loop, which also writes the number of each.
 fn replay_lines<const LINE: usize, A: Replayed<LINE>>(
     answers: &mut A,
     out: Stdout,

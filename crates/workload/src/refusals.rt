@@ -34,6 +34,7 @@ pub fn check_load(seed: u64, hop: f64, lent: &Window<'_>) -> Result<(), LoadRefu
 }
 
 // The number of document 02; what opening refuses too has opening's.
+// Kept: the C interface's numbers; `From` would stand in workload_spec, which has no functions.
 #[tactic(auto, unfolding(workload_spec::specs::Fill::load_number))]
 pub fn load_number(r: LoadRefusal) -> u32
     ensures { result ≡ load_number r }

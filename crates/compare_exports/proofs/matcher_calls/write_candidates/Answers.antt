@@ -46,4 +46,4 @@ loop-i-init c = refl
 pub loop-i-preserved : goal.loop-i-preserved
 loop-i-preserved c =
     let l = c.loop-i in
-    rw c.copy_from_slice.ensures.after (more c.eight_of-eight.result _ c.args.out.now l.out l.i (search rules) l.invariant)
+    rw (c.copy_from_slice.ensures.after, c.numbers_of.ensures) (more c.eight_of-eight.result _ c.args.out.now l.out l.i (search rules) l.invariant)

@@ -18,12 +18,13 @@ unfolding answers_of of_bits zeros
 returns-then-not-fill_index c =
     let a = c.args.small.case in
     let l = c.args.small.limits in
+    let e = c.default.ensures in
     refused a zeros
     (times_front zero⁺ a.hop case_frames a.frames c.fill_times.ensures l.frames)
     (reference_front a.seed a.period a.frames fine_room (a.bands * a.frames) c.fill_reference.ensures (reference_fits l))
     c.fill_index.ensures.value
     c.if-not-fill_index.true
-    c.rejected.ensures
+    (λ i. record { filled = e.0 i; index = e.1.0 i; whole_count = e.1.1.0 i; whole = e.1.1.1.0 i; local_count = e.1.1.1.1.0 i; local = e.1.1.1.1.1 i })
 
 pub returns : goal.returns
 unfolding answers_of of_bits zeros
