@@ -1,4 +1,3 @@
 pub mod BandLaws
 pub mod CentringLaws
-pub mod EnergyLaws
 pub mod TimelineLaws
