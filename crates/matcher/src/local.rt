@@ -37,8 +37,8 @@ pub fn local_search(
     local_found(query, fine, lower, upper, work32, work64)
 }
 
-// The best place with an offset from `lower` to `upper`, both included, by the query that
-// stands at the fronts of the working slices. It stays, so that a whole search may follow.
+// The best place with an offset from `lower` to `upper`, both included, by the query that stands at
+// the fronts of the working slices. It stays, so that a whole search may follow.
 pub fn local_found(
     query: Query,
     fine: &Fine<'_>,
