@@ -4,7 +4,7 @@ ghost use Rattle.engine_spec.specs.Windows.{endpoint_of, query};
 ghost use Rattle.engine_spec.specs.Tracking.{may_coast, unsupported};
 ghost use Rattle.engine_spec.specs.Locking.{is_due};
 ghost use Rattle.engine_lock.specs.Views.{searched_in, tracked_in};
-ghost use Rattle.engine_search.specs.Searching.{Filled, Works, evidence_of, searched_of, searched_with, tracked_of};
+ghost use Rattle.engine_search.specs.Searching.{Filled, Works, evidence_of, near_of, searched_of, searched_with, tracked_of, whole_of};
 
 use crate::kinds::Search;
 use engine_lock::kinds::{Searched, Tracked, WholeSearch};
@@ -14,10 +14,11 @@ use engine_spec::lent::Window;
 use engine_spec::thresholds::LOCAL_MS;
 use engine_spec::types::{Hypothesis, RecordedMs};
 use matcher::local::local_found;
-use matcher::query::fill_query;
+use matcher::query::{Query, fill_query};
 use matcher::whole::whole_found;
 use matcher_picks::candidates::nothing_found;
 use matcher_spec::lent::Features;
+use matcher_spec::types::MatchResult;
 
 impl<'a> Search<'a> {
     // A local search for the track, if there is one that may still coast, then a whole search, if one
@@ -43,19 +44,13 @@ impl<'a> Search<'a> {
         requires coasts { may_coast (evidence_of self.now) track.last_evidence_ms ≡ true }
         ensures { searched_in result ≡ searched_of self.now }
     {
-        let filled = self.fill(work32, work64);
-        let found = local_found(
-            filled,
-            &self.matcher.fine,
-            &features_of(self.window),
-            track.offset_ms - LOCAL_MS,
-            track.offset_ms + LOCAL_MS,
-            work32,
-            work64,
-        );
+        let query = self.fill(work32, work64);
+        let found = self.near(query, track, work32, work64);
         let t = followed(track, self.evidence(), found);
-        let whole = self.granted & self.is_due(t.supported);
-        self.then_whole(whole, filled, t, work32, work64)
+        if self.granted & self.is_due(t.supported) {
+            return self.judged(query, t, work32, work64);
+        }
+        locally_searched(self.reached, self.lock, t)
     }
 
     // Without one: the query is filled if a whole search is made.
@@ -65,10 +60,11 @@ impl<'a> Search<'a> {
         requires untracked { unsupported None [] ≡ tracked_of self.now }
         ensures { searched_in result ≡ searched_of self.now }
     {
-        let whole = self.granted & self.is_due(false);
-        let filled = whole && self.fill(work32, work64);
         let t = unsupported(None, nothing_found());
-        self.then_whole(whole, filled, t, work32, work64)
+        if self.granted & self.is_due(false) {
+            return self.judged(self.fill(work32, work64), t, work32, work64);
+        }
+        locally_searched(self.reached, self.lock, t)
     }
 
     // The window's evidence time.
@@ -86,8 +82,8 @@ impl<'a> Search<'a> {
         is_due(supported, endpoint_of(self.window), last)
     }
 
-    // Fills the query.
-    fn fill(&self, work32: &mut [f32], work64: &mut [f64]) -> bool
+    // Fills the query, and answers it.
+    fn fill(&self, work32: &mut [f32], work64: &mut [f64]) -> Option<Query>
         requires work_room { Works self.now work32.old work64.old }
         ensures { Filled self.now result work32.new work64.new }
     {
@@ -95,31 +91,68 @@ impl<'a> Search<'a> {
         fill_query(reference, &features_of(self.window), work32, work64)
     }
 
-    // After tracking: a whole search by the window's query, or none.
-    fn then_whole(
+    // The best place near the track by the window's query, which stays.
+    fn near(
         &self,
-        whole: bool,
-        filled: bool,
+        query: Option<Query>,
+        track: Hypothesis,
+        work32: &[f32],
+        work64: &mut [f64],
+    ) -> MatchResult
+        requires work_room { Works self.now work32.now work64.old }
+        requires filled_query { Filled self.now query work32.now work64.old }
+        ensures value { result.items ≡ near_of self.now track }
+        ensures filled_query { Filled self.now query work32.now work64.new }
+    {
+        let Some(query) = query else {
+            return nothing_found();
+        };
+        local_found(
+            query,
+            &self.matcher.fine,
+            track.offset_ms - LOCAL_MS,
+            track.offset_ms + LOCAL_MS,
+            work32,
+            work64,
+        )
+    }
+
+    // The candidates of the whole reference by the window's query.
+    fn candidates(
+        &self,
+        query: Option<Query>,
+        work32: &mut [f32],
+        work64: &mut [f64],
+    ) -> MatchResult
+        requires work_room { Works self.now work32.old work64.old }
+        requires filled_query { Filled self.now query work32.old work64.old }
+        ensures { result.items ≡ whole_of self.now }
+    {
+        let Some(query) = query else {
+            return nothing_found();
+        };
+        whole_found(query, &self.matcher, work32, work64)
+    }
+
+    // After tracking: a whole search by the window's query.
+    fn judged(
+        &self,
+        query: Option<Query>,
         t: Tracked,
         work32: &mut [f32],
         work64: &mut [f64],
     ) -> Searched
         requires work_room { Works self.now work32.old work64.old }
-        requires filled_query { whole ≡ true → Filled self.now filled work32.old work64.old }
-        ensures { searched_in result ≡ searched_with whole self.now (tracked_in t) }
+        requires filled_query { Filled self.now query work32.old work64.old }
+        ensures { searched_in result ≡ searched_with true self.now (tracked_in t) }
     {
-        if !whole {
-            return locally_searched(self.reached, self.lock, t);
-        }
-        let query = features_of(self.window);
-        let found = whole_found(filled, &self.matcher, &query, work32, work64);
         let search = WholeSearch {
             evidence: self.evidence(),
             endpoint: endpoint_of(self.window),
             reached: self.reached,
             pending: self.lock.pending,
             tracked: t,
-            found,
+            found: self.candidates(query, work32, work64),
         };
         search.judged(self.matcher.fine.reference.hop_ms)
     }

@@ -1,1 +1,2 @@
+pub mod QueryLaws
 pub mod SearchLaws

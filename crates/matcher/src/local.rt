@@ -1,12 +1,13 @@
 // Local search: the best place within a range of offsets.
 ghost use Rattle.std.specs.Prelude.{◌*◌, ◌≤◌, length, ◌≡◌};
+ghost use Rattle.matcher_spec.specs.Index.{lent_bands};
 ghost use Rattle.matcher_spec.specs.Lent.{bands_in};
-ghost use Rattle.matcher_spec.specs.Search.{FilledQuery, WorkRoom, local_found, local_search, place};
+ghost use Rattle.matcher_spec.specs.Search.{QueryFits, WorkRoom, local_found, local_search, place};
 
-use crate::fronts::{front_bands, query_frames, query_start};
+use crate::fronts::front_bands;
 use matcher_candidates::candidate::best_candidate;
 use matcher_candidates::comparison::Comparison;
-use matcher_filling::query::fill_query;
+use matcher_filling::query::{Query, fill_query};
 use matcher_picks::candidates::nothing_found;
 use matcher_spec::lent::{Features, Fine, Paired};
 use matcher_spec::types::MatchResult;
@@ -30,41 +31,36 @@ pub fn local_search(
     requires values_len_2 { WorkRoom fine.now.reference window.now.bands (length window.now.times) work32.old work64.old }
     ensures value { result.items ≡ local_search fine.now.reference (bands_in fine.now.bands) window.now lower upper }
 {
-    let filled = fill_query(fine.reference, window, work32, work64);
-    local_found(filled, fine, window, lower, upper, work32, work64)
+    let Some(query) = fill_query(fine.reference, window, work32, work64) else {
+        return nothing_found();
+    };
+    local_found(query, fine, lower, upper, work32, work64)
 }
 
-// The best place with an offset from `lower` to `upper`, both included, by the query that
-// `fill_query` filled for the window: none where it answered false. The query stays, so that a
-// whole search may follow. Of the window only the times are read.
-#[tactic(auto, unfolding(matcher_spec::specs::Search::local_search))]
+// The best place with an offset from `lower` to `upper`, both included, by the query that stands at
+// the fronts of the working slices. It stays, so that a whole search may follow.
 pub fn local_found(
-    filled: bool,
+    query: Query,
     fine: &Fine<'_>,
-    window: &Features<'_>,
     lower: f64,
     upper: f64,
     work32: &[f32],
     work64: &mut [f64],
 ) -> MatchResult
-    requires work_room { WorkRoom fine.now.reference window.now.bands (length window.now.times) work32.now work64.old }
-    requires filled_query { FilledQuery fine.now.reference window.now filled work32.now work64.old }
-    ensures value { result.items ≡ local_search fine.now.reference (bands_in fine.now.bands) window.now lower upper }
-    ensures filled_query { FilledQuery fine.now.reference window.now filled work32.now work64.new }
+    requires fits { QueryFits fine.now.reference query.frames }
+    requires work_room { WorkRoom fine.now.reference fine.now.reference.bands query.frames work32.now work64.old }
+    ensures value { result.items ≡ local_found fine.now.reference (bands_in fine.now.bands) (lent_bands fine.now.reference.bands query.frames work32.now work64.old) query.start lower upper }
+    ensures stays { lent_bands fine.now.reference.bands query.frames work32.now work64.new ≡ lent_bands fine.now.reference.bands query.frames work32.now work64.old }
 {
-    if !filled {
-        return nothing_found();
-    }
-    let n = query_frames(fine, window);
-    let energies_end = fine.reference.bands * (n + 1);
+    let energies_end = fine.reference.bands * (query.frames + 1);
     let (energy, scores) = work64.split_at_mut(energies_end);
     let compared = Comparison {
         reference: fine.reference,
         bands: Paired {
             reference: fine.bands,
-            query: front_bands(fine.reference.bands, n, work32, energy),
+            query: front_bands(fine.reference.bands, query.frames, work32, energy),
         },
-        start: query_start(fine, window),
+        start: query.start,
     };
     local_candidates(&compared, lower, upper, scores)
 }

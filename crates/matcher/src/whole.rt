@@ -8,13 +8,13 @@ ghost use Rattle.matcher_spec.specs.Lent.{bands_in};
 ghost use Rattle.matcher_spec.specs.Limits.{bands_most, frames_most};
 ghost use Rattle.matcher_spec.specs.Peaks.{peaks};
 ghost use Rattle.matcher_spec.specs.Scores.{correlations};
-ghost use Rattle.matcher_spec.specs.Search.{FilledQuery, WorkRoom, candidates_at, coarse_scores, separation, whole_found, whole_search};
+ghost use Rattle.matcher_spec.specs.Search.{QueryFits, WorkRoom, candidates_at, coarse_scores, separation, whole_found, whole_search};
 
-use crate::fronts::{front_bands, query_frames, query_start};
+use crate::fronts::front_bands;
 use matcher_bands::energy::reduce_with_energies;
 use matcher_candidates::candidate::{best_candidate, score_places};
 use matcher_candidates::comparison::Comparison;
-use matcher_filling::query::fill_query;
+use matcher_filling::query::{Query, fill_query};
 use matcher_picks::candidates::{insert_by_score, keep_independent, nothing_found};
 use matcher_picks::peaks::{Picked, pick_peaks};
 use matcher_spec::constants::APART_MS;
@@ -36,31 +36,27 @@ pub fn whole_search(
     requires values_len_2 { WorkRoom matcher.now.reference window.now.bands (length window.now.times) work32.old work64.old }
     ensures value { result.items ≡ whole_search matcher.now window.now }
 {
-    let filled = fill_query(matcher.fine.reference, window, work32, work64);
-    whole_found(filled, matcher, window, work32, work64)
+    let Some(query) = fill_query(matcher.fine.reference, window, work32, work64) else {
+        return nothing_found();
+    };
+    whole_found(query, matcher, work32, work64)
 }
 
-// The candidates of the whole reference, by the query that `fill_query` filled for the window: none
-// where it answered false. Of the window only the times are read. What the working buffers hold
-// afterwards is free.
-#[tactic(auto, unfolding(matcher_spec::specs::Search::whole_search))]
+// The candidates of the whole reference, by the query that stands at the fronts of the working
+// slices. What they hold afterwards is free.
 pub fn whole_found(
-    filled: bool,
+    query: Query,
     matcher: &Matcher<'_>,
-    window: &Features<'_>,
     work32: &mut [f32],
     work64: &mut [f64],
 ) -> MatchResult
-    requires work_room { WorkRoom matcher.now.reference window.now.bands (length window.now.times) work32.old work64.old }
-    requires filled_query { FilledQuery matcher.now.reference window.now filled work32.old work64.old }
-    ensures value { result.items ≡ whole_search matcher.now window.now }
+    requires fits { QueryFits matcher.now.reference query.frames }
+    requires work_room { WorkRoom matcher.now.reference matcher.now.reference.bands query.frames work32.old work64.old }
+    ensures { result.items ≡ whole_found matcher.now (lent_bands matcher.now.reference.bands query.frames work32.old work64.old) query.start }
 {
-    if !filled {
-        return nothing_found();
-    }
     let fine = &matcher.fine;
     let bands = fine.reference.bands;
-    let n = query_frames(fine, window);
+    let n = query.frames;
     let (values, averages) = work32.split_at_mut(bands * n);
     let (energy, rest) = work64.split_at_mut(bands * (n + 1));
     let compared = Comparison {
@@ -69,7 +65,7 @@ pub fn whole_found(
             reference: fine.bands,
             query: front_bands(bands, n, values, energy),
         },
-        start: query_start(fine, window),
+        start: query.start,
     };
     whole_candidates(&compared, &matcher.coarse, averages, rest)
 }

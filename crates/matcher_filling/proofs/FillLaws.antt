@@ -15,10 +15,12 @@ use Rattle.matcher_spec.specs.Centring.{centred, kept, radius}
 use Rattle.matcher_spec.specs.Energy.{all_energies, bands_of}
 use Rattle.matcher_spec.specs.Index.{accepts_reference, fine_values, lent_bands}
 use Rattle.numbers_spec.specs.Rows.{row, rows}
-use Rattle.matcher_spec.specs.Search.{FilledQuery, QueryIn, query_of, query_values, searchable}
+use Rattle.matcher_spec.specs.Search.{InRange, QueryIn, query_of, query_start, query_values, searchable}
 use Rattle.matcher_spec.specs.Features.{Features}
 use Rattle.matcher_spec.specs.Timeline.{accepts, regular, valid_values}
 use Rattle.matcher_spec.specs.declared.types.Reference.{Reference}
+use Rattle.matcher_filling.specs.Queries.{QueryFilled}
+use Rattle.matcher_filling.specs.declared.query.Query.{Query}
 use Rattle.numbers_spec.proofs.RowLaws.{row_within}
 use Rattle.numbers_spec.proofs.PartLaws.{front_and_rest, front_length, drop_past, rows_ext}
 use Rattle.matcher_spec.proofs.Cases.{and_true_l, and_true_r, and_last}
@@ -112,13 +114,22 @@ energies_rest frames n {bands} p sums d {energy} some few fits same q long =
 pub query_told : (x : Reference) (w : Features) (work32 work64 : List Float) {r : ℕ} → r ≡ radius x.hop_ms → searchable x w ≡ true
     → take (w.bands * (length w.times - 2 * r)) work32 ≡ query_values r w.bands (length w.times) w.values
     → take (w.bands * (length w.times - 2 * r + 1)) work64 ≡ all_energies w.bands (length w.times - 2 * r) (take (w.bands * (length w.times - 2 * r)) work32)
-    → FilledQuery x w true work32 work64
+    → InRange x → (q : Query) → q.frames ≡ length w.times - 2 * r → q.start ≡ query_start r w
+    → QueryFilled x w q work32 work64
 unfolding query_of
-query_told x w work32 work64 {r} e h p q =
+query_told x w work32 work64 {r} e h p q in_range given f start =
     let n = length w.times - 2 * r in
+    let room = searchable_room x w h in
     let energy = rw add-one at q ∙ ap (all_energies w.bands n) p in
     let t : lent_bands w.bands n work32 work64 ≡ query_of r w = (λ i. bands_of n (p i) (energy i)) in
     let held : QueryIn x w work32 work64 =
-    subst (λ (b : ℕ). lent_bands b (length w.times - 2 * radius x.hop_ms) work32 work64 ≡ query_of (radius x.hop_ms) w) (searchable_room x w h).0
+    subst (λ (b : ℕ). lent_bands b (length w.times - 2 * radius x.hop_ms) work32 work64 ≡ query_of (radius x.hop_ms) w) room.0
     (subst (λ (k : ℕ). lent_bands w.bands (length w.times - 2 * k) work32 work64 ≡ query_of k w) e t) in
-    record { told = sym h; query = λ _. held }
+    record {
+      filled = record { told = sym h; query = λ _. held };
+      frames = f ∙ ap (λ (k : ℕ). length w.times - 2 * k) e;
+      start = start ∙ ap (λ (k : ℕ). query_start k w) e;
+      fits = record { few = in_range.few; short = in_range.short; some = omega (arith, f, e, room); within = omega (arith, f, e, room) };
+      within = omega (arith, f);
+      bands = room.0;
+    }

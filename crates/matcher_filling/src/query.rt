@@ -1,7 +1,8 @@
 // A query: the window's bands centred, which a whole and a local search take.
 ghost use Rattle.std.specs.Prelude.{◌*◌, length, true, ◌≡◌};
 ghost use Rattle.matcher_spec.specs.Centring.{wide_hop};
-ghost use Rattle.matcher_spec.specs.Search.{FilledQuery, InRange, WorkRoom, searchable};
+ghost use Rattle.matcher_spec.specs.Search.{InRange, WorkRoom, searchable};
+ghost use Rattle.matcher_filling.specs.Queries.{Answered};
 
 use crate::centred::fill_centred;
 use matcher_bands::centring::radius;
@@ -9,9 +10,16 @@ use matcher_bands::timeline::{accepts_timeline, are_valid};
 use matcher_spec::lent::Features;
 use matcher_spec::types::Reference;
 
-// Fills the query of a window that is searchable, and answers whether it is. The query's values then
-// stand at the front of `work32` and its energies at the front of `work64`; what was there does not
-// matter.
+// How many frames a query has, and the time of the first.
+#[derive(Clone, Copy)]
+pub struct Query {
+    pub frames: usize,
+    pub start: f64,
+}
+
+// Fills the query of a window, and answers it; none where the window is not searchable. The query's
+// values stand at the front of `work32` and its energies at the front of `work64`; what was there
+// does not matter.
 // Kept: two working slices, since in a struct each would need a ghost name in the clauses.
 #[tactic(auto, using(matcher_spec::proofs::RadiusLaw::radius_small))]
 pub fn fill_query(
@@ -19,18 +27,21 @@ pub fn fill_query(
     window: &Features<'_>,
     work32: &mut [f32],
     work64: &mut [f64],
-) -> bool
+) -> Option<Query>
     requires in_range { InRange reference }
     requires values_len_1 { length window.now.values ≡ window.now.bands * length window.now.times }
     requires values_len_2 { WorkRoom reference window.now.bands (length window.now.times) work32.old work64.old }
-    ensures { FilledQuery reference window.now result work32.new work64.new }
+    ensures { Answered reference window.now result work32.new work64.new }
 {
     if !is_searchable(reference, window) {
-        return false;
+        return None;
     }
     let radius = radius(reference.hop_ms);
     fill_centred(work32, work64, window, radius, radius);
-    true
+    Some(Query {
+        frames: window.times.len() - 2 * radius,
+        start: window.times[radius],
+    })
 }
 
 // Whether a search begins.

@@ -30,8 +30,8 @@ pub struct Paired<'a> {
 }
 
 // A time for each frame, and values band after band.
-// Kept: who reads all values asks that they are bands × times; a search by a filled query reads the
-// times alone and asks no such thing.
+// Kept: who reads the values as bands asks that they are bands × times; `accepts_reference` and
+// the tests of what is handed in ask no such thing.
 #[derive(Drop)]
 pub struct Features<'a> {
     pub bands: usize,
