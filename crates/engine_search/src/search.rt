@@ -20,6 +20,7 @@ use matcher_picks::candidates::nothing_found;
 use matcher_spec::lent::Features;
 use matcher_spec::types::MatchResult;
 
+// Kept: the working slices, with `Works` and `Filled` of them, in each method, see `Search`.
 impl<'a> Search<'a> {
     // A local search for the track, if there is one that may still coast, then a whole search, if one
     // is granted and due.

@@ -99,6 +99,7 @@ fn whole_candidates(
 // The peaks of the scores of the bands averaged by fours, which the reference's are already. The
 // query's averages are worked out in `averages`, their energies and the scores behind them in
 // `work`.
+// Kept: few and short, here and below, see `Paired`.
 #[tactic(auto, unfolding(matcher_spec::specs::Search::coarse_scores))]
 fn coarse_peaks(
     paired: &Paired<'_>,
