@@ -17,8 +17,8 @@ use numbers::whole::{ceil, count, floor};
 // The best place with an offset from `lower` to `upper`, both included, for a caller that makes one
 // search of a window: crates compare_exports and matcher_replay. What the working buffers held does
 // not matter, and what they hold afterwards is free.
-// Kept: window and working slices one by one, since the slices are lent `&mut`: a struct of them has
-// a ghost name for each in every clause, and `WorkRoom` stays a clause.
+// Kept: window and working slices one by one, here and below, since the slices are lent `&mut`: a
+// struct of them has a ghost name for each in every clause, and `WorkRoom` stays a clause.
 pub fn local_search(
     fine: &Fine<'_>,
     window: &Features<'_>,

@@ -175,6 +175,7 @@ fn centre_band(row: &mut [f32], sums: &mut [f64], centring: Centring)
 // Takes the logs of each band and centres them, band after band. A band is worked out in the
 // `frames` places from its own start on, so the next one's follows at once, and the last is followed
 // by those of its logs that no frame replaced.
+// Kept: values and bands, as the functions of energy.rt take them.
 pub fn centre_bands(
     out: &mut [f32],
     sums: &mut [f64],
