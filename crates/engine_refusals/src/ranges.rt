@@ -49,8 +49,8 @@ pub fn is_hop(hop: f64) -> bool
 }
 
 // Whether every time is near.
-// Kept: written out at its one call, as the two below, each return behind it asks for the law of `all`
-// by hand, five answers for three.
+// Kept, here and in the two below: with `all` at the one call, each return behind it needs the law of
+// `all` by hand, five answers for three.
 pub fn are_near(times: &[f64]) -> bool
     ensures { result ≡ every near times.now }
 {

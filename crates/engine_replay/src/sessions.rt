@@ -49,7 +49,7 @@ impl Sessions {
         self.host.submit(o, Submission::of(line))
     }
 
-    // Whether a line says what is answered to it. In what it does is kept, to be written.
+    // Whether a line says what is answered to it. Which of its answers agree is kept, for `report`.
     fn compared(&mut self, line: &[u8; LINE], found: Answers) -> bool
         ensures value { result ≡ in_all (agreement_with line.now found) }
         ensures kept { self.new.agreement ≡ agreement_with line.now found }

@@ -9,9 +9,8 @@ use std::marker::Model;
 // A time and an energy for each frame, and values band after band.
 // Kept: what a window or a reference has that is not refused (a frame, an energy for each, few bands)
 // is asked where it is needed: a type with all of it would ask more of callers of public functions
-// that ask for a part. One around `&Window` with a frame alone would ask no more, but for one clause
-// less each body would read `heard.window.times`, and make it or take it apart beside functions that
-// ask for something else.
+// that ask for a part. A struct of `&Window` and one of the facts would ask no more; it would save a
+// clause, and each body would have to make it or take it apart.
 #[derive(Drop)]
 pub struct Window<'a> {
     pub bands: usize,
