@@ -79,17 +79,25 @@ impl<T: Copy, const MOST: usize> Few<T, MOST> {
         ensures items { self.new.items ≡ insert self.old.items at item }
         ensures len { length self.new.items ≡ length self.old.items + 1 }
     {
-        self.push(item);
-        lift_last(&mut self.places[..self.count], at);
+        let last = shift_in(&mut self.places[..self.count], at, item);
+        self.push(last);
     }
 }
 
-// Moves the last of the list to `at`, and those from there on up by one.
-fn lift_last<T>(list: &mut [T], at: usize)
-    requires { at < length list.old }
-    ensures { (others : List T) (last : T) → list.old ≡ others ++ last ∷ [] → list.new ≡ insert others at last }
+// Puts the item at `at`, and each from there on where the next one stood; the last is given back. A
+// loop that holds one item, since std's rotation asks `memmove` of a C library, and the header
+// promises that a host needs none.
+fn shift_in<T: Copy>(list: &mut [T], at: usize, item: T) -> T
+    requires { at ≤ length list.old }
+    ensures { list.new ++ result ∷ [] ≡ insert list.old at item }
 {
-    list[at..].rotate_right(1);
+    let mut held = item;
+    for i in at..list.len() {
+        let next = list[i];
+        list[i] = held;
+        held = next;
+    }
+    held
 }
 
 impl<T, const MOST: usize> DerefSlice for Few<T, MOST> {
