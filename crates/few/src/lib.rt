@@ -1,5 +1,4 @@
-// A list of at most MOST items, which lie in the value itself: it is Copy where they are, and the
-// kit's ArrayVec is not.
+// A list of at most MOST items, which lie in the value itself, so that it is Copy where they are.
 #![tactic(auto)]
 
 ghost use Rattle.std.specs.Prelude.{◌≡◌, ◌+◌, ◌<◌, ◌≤◌, ◌++◌, List, [], ◌∷◌, insert, length};
@@ -7,6 +6,7 @@ ghost use Rattle.std.specs.Prelude.{◌≡◌, ◌+◌, ◌<◌, ◌≤◌, ◌+
 use std::marker::Model;
 use std::ops::DerefSlice;
 
+// Kept: an array with a count, since the kit's ArrayVec is not Copy.
 #[derive(Clone, Copy)]
 pub struct Few<T, const MOST: usize> {
     places: [T; MOST],
