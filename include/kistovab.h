@@ -20,7 +20,7 @@
 // What is kept
 //   - All that lasts from call to call lies in the caller's buffers: the index, the state, and a
 //     store where there is one. Nothing is allocated, and there are no globals. A call takes some
-//     10 kB of stack (docs/BENCHMARKS.md).
+//     16 kB of stack (docs/BENCHMARKS.md).
 //   - A state's words are for the calls alone: not to be looked at, nor changed. As a whole it may be
 //     copied and put back. So seats can share an index: open once, and give each a copy of the state
 //     as opening left it.

@@ -49,7 +49,9 @@ pub fn submit(
     Ok(answered(engine, &submission, work32, work64))
 }
 
-// A submission that is not refused: the last snapshot again, or a computed one.
+// A submission that is not refused: the last snapshot again, or a computed one. A call of its own, so
+// that a refused one takes no stack for it.
+#[inline(never)]
 #[tactic(auto, unfolding(engine_spec::specs::Submitting::answered_from, engine_spec::specs::Submitting::decision_on))]
 fn answered(
     engine: Engine,

@@ -12,7 +12,7 @@ pub struct Seen {
 }
 
 // All that a window decides.
-#[derive(Drop)]
+#[derive(Clone, Copy)]
 pub struct Decision {
     pub lock: Lock,
     pub reached: Reached,

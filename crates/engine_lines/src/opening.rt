@@ -6,11 +6,11 @@ use hexadecimal::word_at;
 use replays::sound::fill_times;
 
 // The most frames and bands of a reference whose index the program's buffers hold.
-pub(crate) const FRAMES: usize = 400;
+pub const FRAMES: usize = 400;
 
-pub(crate) const BANDS: usize = 4;
+pub const BANDS: usize = 4;
 
-pub(crate) const VALUES: usize = BANDS * FRAMES;
+pub const VALUES: usize = BANDS * FRAMES;
 
 // What makes a reference. The index buffers are lent whole: some references need longer ones.
 #[derive(Clone, Copy)]

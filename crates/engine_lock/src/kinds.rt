@@ -2,7 +2,7 @@
 use engine_spec::types::{Hypothesis, Lock, Reached, RecordedMs};
 use matcher_spec::types::MatchResult;
 
-#[derive(Drop)]
+#[derive(Clone, Copy)]
 pub struct Tracked {
     pub accepted: Option<Hypothesis>,
     pub supported: bool,
@@ -12,7 +12,7 @@ pub struct Tracked {
 
 // What a whole search leaves to be judged: the window's evidence time and endpoint, which milestones
 // are there, pending and the track before it, and what it found.
-#[derive(Drop)]
+#[derive(Clone, Copy)]
 pub struct WholeSearch {
     pub evidence: RecordedMs,
     pub endpoint: RecordedMs,
@@ -22,7 +22,7 @@ pub struct WholeSearch {
     pub found: MatchResult,
 }
 
-#[derive(Drop)]
+#[derive(Clone, Copy)]
 pub struct Searched {
     pub lock: Lock,
     pub reached: Reached,

@@ -2,7 +2,9 @@
 ghost use Rattle.std.specs.Prelude.{◌*◌, ◌≤◌, length, ◌≡◌};
 ghost use Rattle.matcher_spec.specs.Index.{lent_bands};
 ghost use Rattle.matcher_spec.specs.Lent.{bands_in};
+ghost use Rattle.matcher_spec.specs.Features.{Features};
 ghost use Rattle.matcher_spec.specs.Search.{QueryFits, WorkRoom, local_found, local_search, place};
+ghost use Rattle.matcher_filling.specs.Queries.{QueryFilled};
 
 use crate::fronts::front_bands;
 use matcher_candidates::candidate::best_candidate;
@@ -38,7 +40,8 @@ pub fn local_search(
 }
 
 // The best place with an offset from `lower` to `upper`, both included, by the query that stands at
-// the fronts of the working slices. It stays, so that a whole search may follow.
+// the fronts of the working slices. It stays, so that a whole search may follow. Where it is the query
+// that `fill_query` filled for a window, this is the window's search, and it is that query still.
 pub fn local_found(
     query: Query,
     fine: &Fine<'_>,
@@ -51,6 +54,8 @@ pub fn local_found(
     requires work_room { WorkRoom fine.now.reference fine.now.reference.bands query.frames work32.now work64.old }
     ensures value { result.items ≡ local_found fine.now.reference (bands_in fine.now.bands) (lent_bands fine.now.reference.bands query.frames work32.now work64.old) query.start lower upper }
     ensures stays { lent_bands fine.now.reference.bands query.frames work32.now work64.new ≡ lent_bands fine.now.reference.bands query.frames work32.now work64.old }
+    ensures searched { (w : Features) → QueryFilled fine.now.reference w query work32.now work64.old → result.items ≡ local_search fine.now.reference (bands_in fine.now.bands) w lower upper }
+    ensures still_filled { (w : Features) → QueryFilled fine.now.reference w query work32.now work64.old → QueryFilled fine.now.reference w query work32.now work64.new }
 {
     let energies_end = fine.reference.bands * (query.frames + 1);
     let (energy, scores) = work64.split_at_mut(energies_end);

@@ -3,12 +3,14 @@ ghost use Rattle.std.specs.Prelude.{◌+◌, ◌-◌, ◌*◌, ◌<◌, ◌/◌,
 ghost use Rattle.std.specs.List.{All};
 ghost use Rattle.matcher_spec.specs.Candidates.{sorted};
 ghost use Rattle.matcher_spec.specs.Energy.{Holds, reduced, whole_energies};
+ghost use Rattle.matcher_spec.specs.Features.{Features};
 ghost use Rattle.matcher_spec.specs.Index.{lent_bands};
 ghost use Rattle.matcher_spec.specs.Lent.{bands_in};
 ghost use Rattle.matcher_spec.specs.Limits.{bands_most, frames_most};
 ghost use Rattle.matcher_spec.specs.Peaks.{peaks};
 ghost use Rattle.matcher_spec.specs.Scores.{correlations};
 ghost use Rattle.matcher_spec.specs.Search.{QueryFits, WorkRoom, candidates_at, coarse_scores, separation, whole_found, whole_search};
+ghost use Rattle.matcher_filling.specs.Queries.{QueryFilled};
 
 use crate::fronts::front_bands;
 use matcher_bands::energy::reduce_with_energies;
@@ -43,7 +45,7 @@ pub fn whole_search(
 }
 
 // The candidates of the whole reference, by the query that stands at the fronts of the working
-// slices. What they hold afterwards is free.
+// slices: those of the window that `fill_query` filled it for. What the slices hold afterwards is free.
 pub fn whole_found(
     query: Query,
     matcher: &Matcher<'_>,
@@ -52,7 +54,8 @@ pub fn whole_found(
 ) -> MatchResult
     requires fits { QueryFits matcher.now.reference query.frames }
     requires work_room { WorkRoom matcher.now.reference matcher.now.reference.bands query.frames work32.old work64.old }
-    ensures { result.items ≡ whole_found matcher.now (lent_bands matcher.now.reference.bands query.frames work32.old work64.old) query.start }
+    ensures value { result.items ≡ whole_found matcher.now (lent_bands matcher.now.reference.bands query.frames work32.old work64.old) query.start }
+    ensures searched { (w : Features) → QueryFilled matcher.now.reference w query work32.old work64.old → result.items ≡ whole_search matcher.now w }
 {
     let fine = &matcher.fine;
     let bands = fine.reference.bands;

@@ -1,11 +1,11 @@
 // Energies of bands, and bands averaged by fours.
-ghost use Rattle.std.specs.Prelude.{◌+◌, ◌*◌, ◌/◌, ◌<◌, ◌≤◌, drop, length, [], ◌++◌, ◌≡◌};
+ghost use Rattle.std.specs.Prelude.{ℕ, ◌+◌, ◌-◌, ◌*◌, ◌/◌, ◌<◌, ◌≤◌, drop, length, [], ◌++◌, ◌≡◌};
 ghost use Rattle.matcher_spec.specs.Energy.{Holds, all_averages, all_energies, average, averages, bands_of, energies, whole_energies};
 ghost use Rattle.matcher_spec.specs.Limits.{bands_most};
-ghost use Rattle.arrayvec.specs.ArrayVec.{array_vec_len};
+ghost use Rattle.numbers_spec.specs.Arithmetic.{zero⁺};
+ghost use Rattle.numbers_spec.specs.Rows.{tabulate};
 
 use crate::rows::{fill_bands, fill_sums};
-use arrayvec::ArrayVec;
 use matcher_spec::limits::BANDS_MOST;
 use numbers_rows::passes::fill_by;
 
@@ -31,17 +31,15 @@ pub fn fill_energies(energy: &mut [f64], values: &[f32], bands: usize, n: usize)
     }
 }
 
-// Each band's whole energy.
-#[tactic(auto, unfolding(matcher_spec::specs::Energy::whole_energies))]
-pub fn whole_energies(energy: &[f64], bands: usize, n: usize) -> ArrayVec<f64, BANDS_MOST>
+// Each band's whole energy; 0.0 past the last band.
+pub fn whole_energies(energy: &[f64], bands: usize, n: usize) -> [f64; BANDS_MOST]
     requires fact_1 { bands ≤ bands_most }
     requires fact_2 { bands * (n + 1) ≤ length energy.now }
-    ensures items { result.items ≡ whole_energies bands (bands_of n [] energy.now) }
-    ensures len { array_vec_len result ≡ bands }
+    ensures { result ≡ whole_energies bands (bands_of n [] energy.now) ++ tabulate (λ (b : ℕ). zero⁺) (bands_most - bands) }
 {
-    let mut whole = ArrayVec::new();
+    let mut whole = [0.0f64; BANDS_MOST];
     for b in 0..bands {
-        whole.push(energy[b * (n + 1) + n]);
+        whole[b] = energy[b * (n + 1) + n];
     }
     whole
 }

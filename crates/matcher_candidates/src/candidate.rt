@@ -47,7 +47,7 @@ pub fn score_places(scores: &mut [f64], paired: &Paired<'_>, low: usize)
     let scoring = Scoring {
         reference: paired.reference,
         query: query.values,
-        whole: &whole,
+        whole: &whole[..query.bands],
         count: query.count,
     };
     correlations(scores, &scoring, low);

@@ -1,6 +1,5 @@
 // Candidates: their order, the 750 rule and the margin.
 ghost use Rattle.std.specs.Prelude.{◌+◌, ◌<◌, length, [], ◌∷◌, ◌≡◌};
-ghost use Rattle.arrayvec.specs.ArrayVec.{array_vec_len};
 ghost use Rattle.matcher_spec.specs.Candidates.{crowded, eight_of, independent, insert, margin_of};
 
 use matcher_spec::constants::APART_MS;
@@ -39,9 +38,9 @@ pub fn numbers_of(c: Candidate) -> [f64; 5]
 
 // Puts c before the first candidate that scores lower.
 pub fn insert_by_score(found: &mut MatchResult, c: Candidate)
-    requires { array_vec_len found.old < CANDIDATES_MOST }
+    requires { length found.old.items < CANDIDATES_MOST }
     ensures items { found.new.items ≡ insert c found.old.items }
-    ensures len { array_vec_len found.new ≡ array_vec_len found.old + 1 }
+    ensures len { length found.new.items ≡ length found.old.items + 1 }
 {
     let n = found.len();
     let at = found.iter().position(|d| d.score < c.score).unwrap_or(n);

@@ -5,7 +5,7 @@ ghost use Rattle.std.specs.List.{All};
 ghost use Rattle.std.specs.Option.{unwrap_or};
 ghost use Rattle.matcher_spec.specs.Peaks.{best_free, better, first_maximum, near_to, peaks};
 
-use arrayvec::ArrayVec;
+use few::Few;
 use matcher_spec::limits::CANDIDATES_MOST;
 
 // A place and the score there.
@@ -36,7 +36,7 @@ pub fn first_maximum(scores: &[f64]) -> Maximum
 }
 
 // Places in the order in which they were picked.
-pub type Picked = ArrayVec<usize, CANDIDATES_MOST>;
+pub type Picked = Few<usize, CANDIDATES_MOST>;
 
 // At most 8 places, each the best that is free.
 #[tactic(auto, using(crate::proofs::PeakLaws::pick_more, crate::proofs::PeakLaws::pick_none), unfolding(matcher_spec::specs::Peaks::peaks_from))]

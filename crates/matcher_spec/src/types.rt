@@ -1,6 +1,6 @@
 // What a search takes and gives.
 use crate::limits::CANDIDATES_MOST;
-use arrayvec::ArrayVec;
+use few::Few;
 
 // What a search knows of its reference besides the buffers.
 #[derive(Clone, Copy)]
@@ -22,4 +22,4 @@ pub struct Candidate {
 }
 
 // What a search finds: at most 8 candidates, the best first.
-pub type MatchResult = ArrayVec<Candidate, CANDIDATES_MOST>;
+pub type MatchResult = Few<Candidate, CANDIDATES_MOST>;

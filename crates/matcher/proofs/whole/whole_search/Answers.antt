@@ -27,4 +27,4 @@ pub returns : goal.returns
 unfolding Answered
 returns c =
     let same = ap (λ (m : Matcher). m.reference) c.matcher.view_is in
-    record { value = c.whole_found.ensures ∙ whole_by c.args.matcher.now _ c.in-Some.query _ _ (rw same at c.in-Some.ensures) }
+    record { value = c.whole_found.ensures.value ∙ whole_by c.args.matcher.now _ c.in-Some.query _ _ (rw same at c.in-Some.ensures) }

@@ -25,4 +25,4 @@ pub returns : goal.returns
 unfolding Answered
 returns c =
     let s = c.args.self.now in
-    c.whole_found.ensures ∙ whole_by s.matcher (query s.window.now) c.in-Some.query c.args.work32.now c.args.work64.now (rw c.in-Some.is at c.requires.filled_query)
+    c.whole_found.ensures.value ∙ whole_by s.matcher (query s.window.now) c.in-Some.query c.args.work32.now c.args.work64.now (rw c.in-Some.is at c.requires.filled_query)
